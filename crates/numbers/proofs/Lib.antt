@@ -1,0 +1,11 @@
+pub mod LoopLaws
+pub mod OutcomeLaws
+pub mod Unique
+pub mod Order
+pub mod Value
+pub mod Zero
+pub mod Chains
+pub mod Unit
+pub mod Magnitudes
+pub mod FiniteLaws
+pub mod WordLaws

@@ -1,0 +1,54 @@
+-- No second answer fits: an answer is settled by its outcome, as a refusal is by its number. So a contract
+-- `scalarOf r ≡ o` has one answer, and one that says `r ≡ o` of a plain value has one by itself. Assumes nothing.
+use Prim.Native.Nat.{ℕ}
+use mathlib.Core.Path.{_≡_, refl, sym, ap, _∙_}
+use mathlib.Core.List.{List, [], _∷_}
+use lib.ListN.{getD}
+use lib.Ieee.{Float}
+use Rattle.numbers.specs.declared.Refusal.{Refusal}
+use Rattle.numbers.specs.declared.Refusal.the-variants as why
+use Rattle.numbers.specs.declared.Scalar.{Scalar}
+use Rattle.numbers.specs.declared.Scalar.the-variants as scalar
+use Rattle.numbers.specs.Outcome.{Outcome, refused, gave}
+use Rattle.numbers.specs.Refusals.{refusalNumber, scalarOf}
+
+-- the refusals by their number
+abbrev refusals : List Refusal
+refusals =
+    why.Lists ∷ why.Room ∷ why.Slot ∷ why.State ∷ why.Words ∷ why.Request ∷ why.Bands ∷ why.Response ∷ why.Edges ∷ why.NotFinite
+    ∷ why.Derivative ∷ why.Balancing ∷ why.Roots ∷ why.Extrema ∷ why.Layout ∷ why.Lists ∷ []
+
+abbrev refusalAt : ℕ → Refusal
+refusalAt n = getD refusals n why.Lists
+
+refusal-back : (r : Refusal) → refusalAt (refusalNumber r) ≡ r
+refusal-back why.Room = refl
+refusal-back why.Slot = refl
+refusal-back why.State = refl
+refusal-back why.Words = refl
+refusal-back why.Request = refl
+refusal-back why.Bands = refl
+refusal-back why.Response = refl
+refusal-back why.Edges = refl
+refusal-back why.NotFinite = refl
+refusal-back why.Derivative = refl
+refusal-back why.Balancing = refl
+refusal-back why.Roots = refl
+refusal-back why.Extrema = refl
+refusal-back why.Layout = refl
+refusal-back why.Lists = refl
+
+pub refusal-unique : (a b : Refusal) → refusalNumber a ≡ refusalNumber b → a ≡ b
+refusal-unique a b e = sym (refusal-back a) ∙ ap refusalAt e ∙ refusal-back b
+
+-- the answer of an outcome
+abbrev scalarAt : Outcome Float → Scalar
+scalarAt (gave x) = scalar.Value x
+scalarAt (refused n) = scalar.Refused (refusalAt n)
+
+scalar-back : (r : Scalar) → scalarAt (scalarOf r) ≡ r
+scalar-back (scalar.Value x) = refl
+scalar-back (scalar.Refused q) = ap scalar.Refused (refusal-back q)
+
+pub scalar-unique : (a b : Scalar) → scalarOf a ≡ scalarOf b → a ≡ b
+scalar-unique a b e = sym (scalar-back a) ∙ ap scalarAt e ∙ scalar-back b

@@ -1,0 +1,5 @@
+pub mod Outcome
+pub mod Refusals
+pub mod Floats
+pub mod Words
+pub mod Loops

@@ -1,0 +1,30 @@
+-- What a computation gives: a refusal by its number in document 01, or an answer. In a chain of binds the order of the
+-- work is the order on the page, and the first refusal is the outcome.
+use Prim.Native.Nat.{ℕ}
+use mathlib.Core.Bool.{Bool, true, false}
+use mathlib.Core.List.{List, [], _∷_}
+use lib.Ieee.{Float}
+use lib.Ieee.Scale.{finite}
+
+pub data Outcome (A : Type 0) : Type 0 where
+  refused : ℕ → Outcome A
+  gave : A → Outcome A
+
+-- what follows is done with what was given; a refusal stays
+abbrev pub bind : {A B : Type 0} → Outcome A → (A → Outcome B) → Outcome B
+bind (refused n) k = refused n
+bind (gave a) k = k a
+
+-- refusal n unless the test holds
+abbrev pub unless : {A : Type 0} → Bool → ℕ → Outcome A → Outcome A
+unless true n o = o
+unless false n o = refused n
+
+-- refusal 9: a needed number that is not finite
+abbrev pub neededOf : Float → Outcome Float
+neededOf x = unless (finite x) 9 (gave x)
+
+-- each entry of a list in turn, from state to state; the first refusal ends it
+unfoldable pub sweep : {A S : Type 0} → (A → S → Outcome S) → List A → S → Outcome S
+sweep f [] s = gave s
+sweep f (x ∷ xs) s = bind (f x s) (sweep f xs)
