@@ -3,3 +3,4 @@ pub mod Refusals
 pub mod Floats
 pub mod Words
 pub mod Loops
+pub mod Operations

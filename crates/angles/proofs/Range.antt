@@ -1,0 +1,47 @@
+-- Whatever is given, a cosine or a sine that is answered lies in -1 to 1 and an arccosine in 0 to PI, none of them a NaN; and
+-- an arccosine is an angle that cosine and sine take. Assumes nothing.
+use mathlib.Core.Path.{_≡_, refl, sym, _∙_}
+use mathlib.Core.Bool.{Bool, true, false}
+use Prim.Native.Nat.{ℕ}
+use native.Mathlib.Omega.{arith}
+use lib.Ieee.{Float, le, lt, eq, neg, ofBits}
+use Rattle.numbers.specs.Floats.{zero64, one64, clamp, Inside}
+use Rattle.numbers.specs.Outcome.{Outcome, refused, gave, unless}
+use Rattle.numbers.proofs.Order.{leq-trans}
+use Rattle.numbers.proofs.Chains.{clamp-inside}
+use Rattle.angles.specs.Constants.{pi, widest}
+use Rattle.angles.specs.Turns.{taken, cosineAt, sineAt, cosineOf, sineOf}
+use Rattle.angles.specs.Arccosine.{inUnit, arccosineAt, arccosineOf}
+
+-- an answer behind a test that is clamped lies inside
+clamped-answer : (t : Bool) (low high z y : Float) → le low high ≡ true → unless t 9 (gave (clamp low high z)) ≡ gave y → Inside low high y
+clamped-answer true low high z y h e = let k : clamp low high z ≡ y = cc in rw (← k) (clamp-inside low high z h)
+clamped-answer false low high z y h e = absurd (let k : _≡_ {A = ℕ} 0 1 = cc in omega arith)
+
+unit-order : le (neg one64) one64 ≡ true
+unfolding le lt eq neg ofBits
+unit-order = refl
+
+pi-order : le zero64 pi ≡ true
+unfolding le lt eq ofBits
+pi-order = refl
+
+pi-taken : le pi widest ≡ true
+unfolding le lt eq ofBits
+pi-taken = refl
+
+pub cosine-range : (x y : Float) → cosineOf x ≡ gave y → Inside (neg one64) one64 y
+unfolding cosineOf
+cosine-range x y e = clamped-answer (taken x) (neg one64) one64 (cosineAt x) y unit-order e
+
+pub sine-range : (x y : Float) → sineOf x ≡ gave y → Inside (neg one64) one64 y
+unfolding sineOf
+sine-range x y e = clamped-answer (taken x) (neg one64) one64 (sineAt x) y unit-order e
+
+pub arccosine-range : (x y : Float) → arccosineOf x ≡ gave y → Inside zero64 pi y
+unfolding arccosineOf
+arccosine-range x y e = clamped-answer (inUnit x) zero64 pi (arccosineAt x) y pi-order e
+
+pub arccosine-taken : (x y : Float) → arccosineOf x ≡ gave y → taken y ≡ true
+unfolding taken
+arccosine-taken x y e = let i = arccosine-range x y e in rw (i .least) (leq-trans y pi widest (i .most) pi-taken)

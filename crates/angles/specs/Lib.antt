@@ -1,0 +1,5 @@
+pub mod Constants
+pub mod Series
+pub mod Turns
+pub mod Root
+pub mod Arccosine
