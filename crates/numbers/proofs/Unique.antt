@@ -1,16 +1,20 @@
 -- No second answer fits: an answer is settled by its outcome, as a refusal is by its number. So a contract
--- `scalarOf r ≡ o` has one answer, and one that says `r ≡ o` of a plain value has one by itself. Assumes nothing.
+-- `scalarOf r ≡ o` or `Filled o n r w w'` has one answer, and one that says `r ≡ o` of a plain value has one by itself.
+-- Assumes nothing.
 use Prim.Native.Nat.{ℕ}
 use mathlib.Core.Path.{_≡_, refl, sym, ap, _∙_}
 use mathlib.Core.List.{List, [], _∷_}
-use lib.ListN.{getD}
+use native.Mathlib.Omega.{arith}
+use lib.ListN.{getD, take}
 use lib.Ieee.{Float}
 use Rattle.numbers.specs.declared.Refusal.{Refusal}
 use Rattle.numbers.specs.declared.Refusal.the-variants as why
 use Rattle.numbers.specs.declared.Scalar.{Scalar}
 use Rattle.numbers.specs.declared.Scalar.the-variants as scalar
 use Rattle.numbers.specs.Outcome.{Outcome, refused, gave}
-use Rattle.numbers.specs.Refusals.{refusalNumber, scalarOf}
+use Rattle.numbers.specs.declared.Verdict.{Verdict}
+use Rattle.numbers.specs.declared.Verdict.the-variants as verdict
+use Rattle.numbers.specs.Refusals.{refusalNumber, scalarOf, verdictOf, Filled}
 
 -- the refusals by their number
 abbrev refusals : List Refusal
@@ -52,3 +56,13 @@ scalar-back (scalar.Refused q) = ap scalar.Refused (refusal-back q)
 
 pub scalar-unique : (a b : Scalar) → scalarOf a ≡ scalarOf b → a ≡ b
 scalar-unique a b e = sym (scalar-back a) ∙ ap scalarAt e ∙ scalar-back b
+
+pub verdict-unique : {A : Type 0} (a b : Verdict) (x y : A) → verdictOf a x ≡ verdictOf b y → a ≡ b
+verdict-unique verdict.Written verdict.Written x y e = refl
+verdict-unique verdict.Written (verdict.Refused q) x y e = absurd (let z : _≡_ {A = ℕ} 0 1 = cc in omega arith)
+verdict-unique (verdict.Refused q) verdict.Written x y e = absurd (let z : _≡_ {A = ℕ} 0 1 = cc in omega arith)
+verdict-unique (verdict.Refused p) (verdict.Refused q) x y e = ap verdict.Refused (refusal-unique p q (cc))
+
+-- what a leaf answers and writes is settled by its outcome and the lent list
+pub filled-unique : {A : Type 0} {o : Outcome (List A)} {n : ℕ} {a b : Verdict} {w u v : List A} → Filled o n a w u → Filled o n b w v → (a ≡ b) × (u ≡ v)
+filled-unique {A} {o} {n} {a} {b} {w} {u} {v} f g = (verdict-unique a b (take n u) (take n v) (f .is ∙ sym (g .is)), f .out ∙ sym (g .out))

@@ -1,9 +1,11 @@
 -- The notions on numbers that the definitions share. Single operations and comparisons are IEEE 754's, as `lib.Ieee` has them.
 use Prim.Native.Nat.{ℕ}
 use mathlib.Core.Path.{_≡_}
-use mathlib.Core.Bool.{Bool, true, false, cond}
+use mathlib.Core.Bool.{Bool, true, false, _&&_, cond}
+use mathlib.Core.List.{List, [], _∷_}
 use lib.Dec.{eqb}
 use lib.IntN.{pos}
+use lib.Ieee.Scale.{finite}
 use lib.Ieee.{Float, nan, inf, fin, binary64, lt, le, isNan, ofBits}
 
 -- the numbers 0.0 and 1.0, as a program writes them
@@ -39,6 +41,10 @@ normal x =
 -- the smaller of two, the first on a tie
 abbrev pub lesser : Float → Float → Float
 lesser a b = cond (lt b a) b a
+
+unfoldable pub allFinite : List Float → Bool
+allFinite [] = true
+allFinite (x ∷ xs) = finite x && allFinite xs
 
 -- brought into low to high: a number inside stays as it is, and a NaN goes to high
 abbrev pub clamp : Float → Float → Float → Float

@@ -1,6 +1,6 @@
-pub mod Outcome
-pub mod Refusals
 pub mod Floats
+pub mod Operations
 pub mod Words
 pub mod Loops
-pub mod Operations
+pub mod Outcome
+pub mod Refusals

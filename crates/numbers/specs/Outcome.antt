@@ -5,6 +5,9 @@ use mathlib.Core.Bool.{Bool, true, false}
 use mathlib.Core.List.{List, [], _∷_}
 use lib.Ieee.{Float}
 use lib.Ieee.Scale.{finite}
+use lib.Dec.{leb}
+use lib.ListN.{length}
+use Rattle.numbers.specs.Floats.{allFinite}
 
 pub data Outcome (A : Type 0) : Type 0 where
   refused : ℕ → Outcome A
@@ -23,6 +26,10 @@ unless false n o = refused n
 -- refusal 9: a needed number that is not finite
 abbrev pub neededOf : Float → Outcome Float
 neededOf x = unless (finite x) 9 (gave x)
+
+-- a finished list for a lent one of that room: refusal 15 where it is too short, then 9 where a number is not finite
+abbrev pub neededListOf : List Float → ℕ → Outcome (List Float)
+neededListOf l room = unless (leb (length l) room) 15 (unless (allFinite l) 9 (gave l))
 
 -- each entry of a list in turn, from state to state; the first refusal ends it
 unfoldable pub sweep : {A S : Type 0} → (A → S → Outcome S) → List A → S → Outcome S

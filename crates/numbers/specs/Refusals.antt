@@ -1,10 +1,15 @@
 -- Document 01's number of each refusal, and the outcome that each answer stands for.
 use Prim.Native.Nat.{ℕ}
+use mathlib.Core.List.{List, _++_}
+use mathlib.Core.Path.{_≡_}
+use lib.ListN.{length, take, drop}
 use lib.Ieee.{Float}
 use Rattle.numbers.specs.declared.Refusal.{Refusal}
 use Rattle.numbers.specs.declared.Refusal.the-variants as why
 use Rattle.numbers.specs.declared.Scalar.{Scalar}
 use Rattle.numbers.specs.declared.Scalar.the-variants as scalar
+use Rattle.numbers.specs.declared.Verdict.{Verdict}
+use Rattle.numbers.specs.declared.Verdict.the-variants as verdict
 use Rattle.numbers.specs.Outcome.{Outcome, refused, gave}
 
 abbrev pub refusalNumber : Refusal → ℕ
@@ -27,3 +32,19 @@ refusalNumber why.Lists = 15
 abbrev pub scalarOf : Scalar → Outcome Float
 scalarOf (scalar.Value x) = gave x
 scalarOf (scalar.Refused r) = refused (refusalNumber r)
+
+-- of a leaf that has written a
+abbrev pub verdictOf : {A : Type 0} → Verdict → A → Outcome A
+verdictOf verdict.Written a = gave a
+verdictOf (verdict.Refused r) a = refused (refusalNumber r)
+
+-- a lent list with what was given in front, as it was beyond; all as it was where that was refused
+abbrev pub front : {A : Type 0} → Outcome (List A) → List A → List A
+front (refused n) w = w
+front (gave l) w = l ++ drop (length l) w
+
+-- The contract of a leaf that writes a list of n numbers into a lent one, w at entry and w' at exit: its outcome, answered, and
+-- what is written.
+pub record Filled {A : Type 0} (o : Outcome (List A)) (n : ℕ) (r : Verdict) (w w' : List A) : Type 0 where
+  pub is : verdictOf r (take n w') ≡ o
+  pub out : w' ≡ front o w

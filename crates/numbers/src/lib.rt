@@ -1,10 +1,13 @@
 ghost use mathlib.Core.Path.{_≡_};
 ghost use lib.IntN.{pos};
-ghost use lib.Ieee.{binary64, ofInt};
+ghost use Prim.Native.Nat.{_<_, _≤_};
+ghost use mathlib.Core.List.{_++_};
+ghost use lib.ListN.{length, getD, drop};
+ghost use lib.Ieee.{nan, binary64, ofInt};
 ghost use lib.Ieee.Scale.{finite};
-ghost use Rattle.numbers.specs.Floats.{magnitudeOf, normal, lesser, clamp};
-ghost use Rattle.numbers.specs.Refusals.{refusalNumber, scalarOf};
-ghost use Rattle.numbers.specs.Outcome.{neededOf};
+ghost use Rattle.numbers.specs.Floats.{allFinite, magnitudeOf, normal, lesser, clamp};
+ghost use Rattle.numbers.specs.Refusals.{refusalNumber, scalarOf, Filled};
+ghost use Rattle.numbers.specs.Outcome.{neededOf, neededListOf};
 ghost use Rattle.numbers.specs.Words.{ofWord, toWord};
 
 // Why a call is refused: the table of document 01, numbers 1 to 15.
@@ -29,6 +32,12 @@ pub enum Refusal {
 // One number, or why there is none.
 pub enum Scalar {
     Value(f64),
+    Refused(Refusal),
+}
+
+// The answer of a leaf that writes a list: it is written, or nothing is.
+pub enum Verdict {
+    Written,
     Refused(Refusal),
 }
 
@@ -71,6 +80,53 @@ pub fn needed(x: f64) -> Scalar
     } else {
         Scalar::Refused(Refusal::NotFinite)
     }
+}
+
+fn is_finite_at(xs: &[f64], i: usize) -> bool
+    requires { ⌜ i < length (now xs) ⌝ }
+    ensures { λ r. ⌜ r ≡ finite (getD (now (xs .entry)) i nan) ⌝ }
+{
+    is_finite(xs[i])
+}
+
+// Every number of a list is finite.
+pub fn all_finite(xs: &[f64]) -> bool
+    ensures { λ r. ⌜ r ≡ allFinite (now (xs .entry)) ⌝ }
+{
+    let mut i = 0;
+    while i < xs.len() {
+        if !is_finite_at(xs, i) {
+            return false;
+        }
+        i += 1;
+    }
+    true
+}
+
+fn copy_into(src: &[f64], out: &mut [f64])
+    requires { ⌜ length (now src) ≤ length (now out) ⌝ }
+    ensures { λ _. ⌜ now (out .exit) ≡ now (src .entry) ++ drop (length (now (src .entry))) (now (out .entry)) ⌝ }
+{
+    let mut k = 0;
+    while k < src.len() {
+        out[k] = src[k];
+        k += 1;
+    }
+}
+
+// A leaf's finished list, written to the front of a lent one: refusal 15 where that is too short, 9 where a number is not
+// finite, and then nothing is written.
+pub fn needed_list(src: &[f64], out: &mut [f64]) -> Verdict
+    ensures { λ r. ⌜ Filled (neededListOf (now (src .entry)) (length (now (out .entry)))) (length (now (src .entry))) r (now (out .entry)) (now (out .exit)) ⌝ }
+{
+    if out.len() < src.len() {
+        return Verdict::Refused(Refusal::Lists);
+    }
+    if !all_finite(src) {
+        return Verdict::Refused(Refusal::NotFinite);
+    }
+    copy_into(src, out);
+    Verdict::Written
 }
 
 // The number without its sign, that of -0.0 too; a NaN stays one.
