@@ -28,7 +28,7 @@ bind-stop k e = rw (← e)
 pub fills-none : {A : Type 0} {o : Outcome (List A)} {n : ℕ} {q : Refusal} {w : List A} → refused (refusalNumber q) ≡ o → Filled o n (verdict.Refused q) w w
 fills-none {A} {o} {n} {q} {w} e = record { is = e; out = rw (← e) }
 
-pub fills : {A : Type 0} {o : Outcome (List A)} {n : ℕ} {w w' : List A} (l : List A) → gave l ≡ o → length l ≡ n → w' ≡ l ++ drop (length l) w → Filled o n verdict.Written w w'
+pub fills : {A : Type 0} {o : Outcome (List A)} {n : ℕ} {w w' : List A} (l : List A) → gave l ≡ o → length l ≡ n → w' ≡ l ++ drop (length l) w → Filled o n verdict.Taken w w'
 fills {A} {o} {n} {w} {w'} l e h k =
     record {
       is = let z : take n w' ≡ l = rw k (take-at l (drop (length l) w) n h) in rw z e;
@@ -44,7 +44,7 @@ module _ {o : Outcome Float} {r : Scalar} (a : scalarOf r ≡ o) where
   value-refused e = rw e at a
 
 module _ {A : Type 0} {o : Outcome (List A)} {n : ℕ} {r : Verdict} {w w' : List A} (a : Filled o n r w w') where
-  pub filled-is : (m : ℕ) → n ≡ m → r ≡ verdict.Written → gave (take m w') ≡ o
+  pub filled-is : (m : ℕ) → n ≡ m → r ≡ verdict.Taken → gave (take m w') ≡ o
   filled-is m e h = let k : verdictOf r (take n w') ≡ o = a .is in rw (← e) (rw h at k)
 
   pub filled-refused : {q : Refusal} → r ≡ verdict.Refused q → refused (refusalNumber q) ≡ o

@@ -58,9 +58,9 @@ pub scalar-unique : (a b : Scalar) → scalarOf a ≡ scalarOf b → a ≡ b
 scalar-unique a b e = sym (scalar-back a) ∙ ap scalarAt e ∙ scalar-back b
 
 pub verdict-unique : {A : Type 0} (a b : Verdict) (x y : A) → verdictOf a x ≡ verdictOf b y → a ≡ b
-verdict-unique verdict.Written verdict.Written x y e = refl
-verdict-unique verdict.Written (verdict.Refused q) x y e = absurd (let z : _≡_ {A = ℕ} 0 1 = cc in omega arith)
-verdict-unique (verdict.Refused q) verdict.Written x y e = absurd (let z : _≡_ {A = ℕ} 0 1 = cc in omega arith)
+verdict-unique verdict.Taken verdict.Taken x y e = refl
+verdict-unique verdict.Taken (verdict.Refused q) x y e = absurd (let z : _≡_ {A = ℕ} 0 1 = cc in omega arith)
+verdict-unique (verdict.Refused q) verdict.Taken x y e = absurd (let z : _≡_ {A = ℕ} 0 1 = cc in omega arith)
 verdict-unique (verdict.Refused p) (verdict.Refused q) x y e = ap verdict.Refused (refusal-unique p q (cc))
 
 -- what a leaf answers and writes is settled by its outcome and the lent list

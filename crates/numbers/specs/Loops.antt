@@ -1,6 +1,6 @@
 -- Loops as functions. Each recurses as the loop turns, so that a definition reads in execution order.
 use Prim.Native.Nat.{ℕ, zero, suc, _+_}
-use mathlib.Core.Bool.{Bool, cond}
+use mathlib.Core.Bool.{Bool, true, false, not, cond}
 use mathlib.Core.List.{List, [], _∷_}
 use lib.Dec.{ltb}
 
@@ -23,3 +23,7 @@ strided f d n (suc m) i s = let r = strided f d n m (i + d) (f i s) in cond (ltb
 unfoldable pub tab : {A : Type 0} → (ℕ → A) → ℕ → ℕ → List A
 tab g zero i = []
 tab g (suc n) i = g i ∷ tab g n (i + 1)
+
+-- the test holds at 0, 1, .., n - 1: a loop that stops at the first place where it does not
+abbrev pub every : (ℕ → Bool) → ℕ → Bool
+every test n = until (λ i. not (test i)) (λ i. false) (λ i s. s) (λ s. true) n 0 (tt {0})

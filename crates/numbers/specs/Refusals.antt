@@ -35,7 +35,7 @@ scalarOf (scalar.Refused r) = refused (refusalNumber r)
 
 -- of a leaf that has written a
 abbrev pub verdictOf : {A : Type 0} → Verdict → A → Outcome A
-verdictOf verdict.Written a = gave a
+verdictOf verdict.Taken a = gave a
 verdictOf (verdict.Refused r) a = refused (refusalNumber r)
 
 -- a lent list with what was given in front, as it was beyond; all as it was where that was refused

@@ -35,9 +35,9 @@ pub enum Scalar {
     Refused(Refusal),
 }
 
-// The answer of a leaf that writes a list: it is written, or nothing is.
+// The answer of a leaf that checks what it is given, or that writes a list: taken, or refused and nothing written.
 pub enum Verdict {
-    Written,
+    Taken,
     Refused(Refusal),
 }
 
@@ -126,7 +126,7 @@ pub fn needed_list(src: &[f64], out: &mut [f64]) -> Verdict
         return Verdict::Refused(Refusal::NotFinite);
     }
     copy_into(src, out);
-    Verdict::Written
+    Verdict::Taken
 }
 
 // The number without its sign, that of -0.0 too; a NaN stays one.
