@@ -1,4 +1,5 @@
 pub mod LoopLaws
+pub mod Lanes
 pub mod OutcomeLaws
 pub mod Unique
 pub mod Order

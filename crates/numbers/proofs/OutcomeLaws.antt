@@ -1,20 +1,21 @@
 -- Outcomes in the proofs of code: what a match on an answer tells is an outcome, a return in a chain of binds, and a loop
 -- that stops at the first refusal. `chains` is the ruleset for `search`. Assumes nothing.
-use Prim.Native.Nat.{ℕ, _+_, _<_, _≤_}
-use mathlib.Core.Path.{_≡_, refl}
-use mathlib.Core.List.{List, _++_}
+use Prim.Native.Nat.{ℕ, suc, _+_, _-_, _<_, _≤_}
+use mathlib.Core.Path.{_≡_, refl, sym, _∙_}
+use mathlib.Core.List.{List, [], _∷_, _++_, append-assoc, append-nil}
 use native.Mathlib.Omega.{arith}
 use native.Mathlib.Numerals.{add-one}
 use lib.Ieee.{Float}
-use lib.ListN.{length, getD, take, drop, drop-of-length-le}
-use lib.Seq.{drop-cons, take-at}
+use native.Mathlib.Nat.{sub-zero}
+use lib.ListN.{length, getD, set, take, drop, drop-of-length-le}
+use lib.Seq.{drop-cons, take-at, take-suc-set}
 use borrow.Author.Needs.{needs}
 use Rattle.numbers.specs.declared.Refusal.{Refusal}
 use Rattle.numbers.specs.declared.Scalar.{Scalar}
 use Rattle.numbers.specs.declared.Scalar.the-variants as scalar
 use Rattle.numbers.specs.declared.Verdict.{Verdict}
 use Rattle.numbers.specs.declared.Verdict.the-variants as verdict
-use Rattle.numbers.specs.Outcome.{Outcome, refused, gave, bind, sweep}
+use Rattle.numbers.specs.Outcome.{Outcome, refused, gave, bind, sweep, gather}
 use Rattle.numbers.specs.Refusals.{refusalNumber, scalarOf, verdictOf, Filled}
 
 -- ---- a return: what was given so far, and what follows; or the refusal
@@ -72,3 +73,38 @@ module _ {A S : Type 0} {f : A → S → Outcome S} {xs : List A} {i : ℕ} {s :
 pub sweeps-end : {A S : Type 0} {f : A → S → Outcome S} {xs : List A} {i : ℕ} {s : S} {r : Outcome S} → Sweeping f xs i s r → length xs ≤ i → gave s ≡ r
 unfolding sweep
 sweeps-end {A} {S} {f} {xs} {i} {s} {r} a h = rw (drop-of-length-le xs {i = i} h) at (a .rest)
+
+-- ---- a list being gathered at the front of a buffer: what is there up to i, and what is still to come, give r
+pub record Gathering {A : Type 0} (g : ℕ → Outcome A) (n i : ℕ) (buffer : List A) (r : Outcome (List A)) : Type 0 where
+  pub within : i ≤ n
+  pub rest : bind (gather g (n - i) i) (λ l. gave (take i buffer ++ l)) ≡ r
+
+bind-gave : {A : Type 0} (o : Outcome A) → bind o (λ a. gave a) ≡ o
+bind-gave (refused n) = refl
+bind-gave (gave a) = refl
+
+-- a list with an entry in front of what comes, or behind what is there
+bind-cons : {A : Type 0} (o : Outcome (List A)) (t : List A) (a : A) → bind (bind o (λ l. gave (a ∷ l))) (λ l. gave (t ++ l)) ≡ bind o (λ l. gave ((t ++ (a ∷ [])) ++ l))
+bind-cons (refused n) t a = refl
+bind-cons (gave l) t a = rw append-assoc
+
+pub gather-start : {A : Type 0} {g : ℕ → Outcome A} {n : ℕ} {b : List A} → Gathering g n 0 b (gather g n 0)
+gather-start {A} {g} {n} {b} = record { within = omega arith; rest = rw sub-zero (bind-gave (gather g n 0)) }
+
+module _ {A : Type 0} {g : ℕ → Outcome A} {n i : ℕ} {b : List A} {r : Outcome (List A)} where
+  pub gather-next : {a : A} → Gathering g n i b r → i < n → i < length b → gave a ≡ g i → Gathering g n (i + 1) (set b i a) r
+  unfolding gather
+  gather-next {a} q h l e =
+      let k : n - i ≡ suc (n - (i + 1)) = omega arith in
+      record {
+        within = omega arith;
+        rest = rw (add-one, take-suc-set b i a l) (sym (bind-cons (gather g (n - suc i) (suc i)) (take i b) a) ∙ (rw (k, ← e, add-one) at (q .rest)));
+      }
+
+  pub gather-stop : {m : ℕ} → Gathering g n i b r → i < n → refused m ≡ g i → refused m ≡ r
+  unfolding gather
+  gather-stop {m} q h e = let k : n - i ≡ suc (n - (i + 1)) = omega arith in rw (k, ← e) at (q .rest)
+
+  pub gather-end : Gathering g n i b r → n ≤ i → gave (take i b) ≡ r
+  unfolding gather
+  gather-end q h = let k : n - i ≡ 0 = omega arith in rw (k, append-nil) at (q .rest)

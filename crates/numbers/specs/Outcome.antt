@@ -1,6 +1,6 @@
 -- What a computation gives: a refusal by its number in document 01, or an answer. In a chain of binds the order of the
 -- work is the order on the page, and the first refusal is the outcome.
-use Prim.Native.Nat.{ℕ}
+use Prim.Native.Nat.{ℕ, zero, suc, _+_}
 use mathlib.Core.Bool.{Bool, true, false}
 use mathlib.Core.List.{List, [], _∷_}
 use lib.Ieee.{Float}
@@ -35,3 +35,8 @@ neededListOf l room = unless (leb (length l) room) 15 (unless (allFinite l) 9 (g
 unfoldable pub sweep : {A S : Type 0} → (A → S → Outcome S) → List A → S → Outcome S
 sweep f [] s = gave s
 sweep f (x ∷ xs) s = bind (f x s) (sweep f xs)
+
+-- what g gives at i, i + 1, .., n times, as a list; the first refusal ends it
+unfoldable pub gather : {A : Type 0} → (ℕ → Outcome A) → ℕ → ℕ → Outcome (List A)
+gather g zero i = gave []
+gather g (suc n) i = bind (g i) (λ a. bind (gather g n (i + 1)) (λ l. gave (a ∷ l)))
