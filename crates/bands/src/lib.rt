@@ -156,7 +156,8 @@ pub fn check_bands(plan: Plan) -> Verdict
     }
 }
 
-fn how_many(plan: Plan) -> usize
+// How many bands count: no more than a plan can hold.
+pub fn how_many(plan: Plan) -> usize
     ensures { λ r. ⌜ r ≡ many plan ⌝ }
 {
     let n = plan.count;

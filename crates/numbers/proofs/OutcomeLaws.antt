@@ -36,6 +36,10 @@ fills {A} {o} {n} {w} {w'} l e h k =
       out = rw (← e) k;
     }
 
+-- the count of what is written, worked out
+pub filled-count : {A : Type 0} {o : Outcome (List A)} {m n : ℕ} {r : Verdict} {w w' : List A} → m ≡ n → Filled o m r w w' → Filled o n r w w'
+filled-count e f = rw e at f
+
 -- ---- an answer's case, as a match finds it
 module _ {o : Outcome Float} {r : Scalar} (a : scalarOf r ≡ o) where
   pub value-is : {x : Float} → r ≡ scalar.Value x → gave x ≡ o

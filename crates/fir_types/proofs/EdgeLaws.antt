@@ -1,0 +1,74 @@
+-- Intervals kept one behind the other are the list of those of positive length. Assumes nothing.
+use Prim.Native.Nat.{ℕ, zero, suc, _+_, _-_, _<_, _≤_}
+use mathlib.Core.Path.{_≡_, refl, sym, ap, _∙_}
+use mathlib.Core.Bool.{Bool, true, false, cond}
+use mathlib.Core.List.{List, [], _∷_, _++_, append-assoc, append-nil}
+use native.Mathlib.Omega.{arith}
+use lib.ListN.{length, set, replicate, length-append}
+use borrow.Author.Tests.{lt-ltb, le-ltb}
+use lib.Dec.{ltb}
+use lib.Ieee.{lt}
+use Rattle.numbers.specs.Outcome.{Outcome, refused, gave, unless}
+use Rattle.numbers.specs.Refusals.{refusalNumber}
+use Rattle.numbers.specs.declared.Refusal.{Refusal}
+use Rattle.numbers.specs.declared.Verdict.the-variants as verdict
+use Rattle.numbers.specs.Floats.{zero64}
+use Rattle.numbers.specs.Loops.{run}
+use Rattle.fir_types.specs.declared.edges.Interval.{Interval}
+use Rattle.fir_types.specs.declared.edges.Edges.{Edges}
+use Rattle.fir_types.specs.Edges.{interval, packed, answerOf, Edged, keep, kept}
+
+-- an entry set behind the front of a list
+set-behind : {A : Type 0} (l : List A) (k : ℕ) (z m : A) → set (l ++ replicate (suc k) z) (length l) m ≡ (l ++ (m ∷ [])) ++ replicate k z
+set-behind [] k z m = refl
+set-behind (x ∷ l) k z m = ap (λ r. x ∷ r) (set-behind l k z m)
+
+packed-more : (l : List Interval) (m : Interval) → length l < 8 → record { list = set (packed l .list) (length l) m; count = length l + 1 } ≡ packed (l ++ (m ∷ []))
+packed-more l m h =
+    let a : length (l ++ (m ∷ [])) ≡ length l + 1 = length-append l (m ∷ []) in
+    let k : 8 - length l ≡ suc (8 - (length l + 1)) = omega arith in
+    let z = interval zero64 zero64 in
+    (λ i. record {
+      list = (ap (λ n. set (l ++ replicate n z) (length l) m) k ∙ set-behind l (8 - (length l + 1)) z m ∙ ap (λ n. (l ++ (m ∷ [])) ++ replicate (8 - n) z) (sym a)) i;
+      count = sym a i;
+    })
+
+-- n more intervals from i on
+pub keeping : (g : ℕ → Interval) (n i : ℕ) (l : List Interval) → length l + n ≤ 8 → run (λ i. keep (g i)) n i (packed l) ≡ packed (l ++ kept g n i)
+unfolding run kept
+keeping g zero i l h = rw append-nil
+keeping g (suc n) i l h =
+    go (lt (g i .begin) (g i .end)) (keeping g n (i + 1) (l ++ (g i ∷ [])) (omega (arith, length-append l (g i ∷ [])))) (keeping g n (i + 1) l (omega arith))
+  where
+    room : length l < 8
+    room = omega arith
+
+    rest : List Interval
+    rest = kept g n (i + 1)
+
+    again : Edges → Edges
+    again = run (λ i. keep (g i)) n (i + 1)
+
+    go : (t : Bool) → again (packed (l ++ (g i ∷ []))) ≡ packed ((l ++ (g i ∷ [])) ++ rest) → again (packed l) ≡ packed (l ++ rest)
+        → again (cond t (record { list = set (packed l .list) (length l) (g i); count = length l + 1 }) (packed l)) ≡ packed (l ++ cond t (g i ∷ rest) rest)
+    go true y n = ap again (packed-more l (g i) room) ∙ y ∙ ap packed (append-assoc l (g i ∷ []) rest)
+    go false y n = n
+
+-- at most one more
+pub keep-count : (m : Interval) (e : Edges) → keep m e .count ≤ e .count + 1
+keep-count m e = go (lt (m .begin) (m .end))
+  where
+    go : (t : Bool) → cond t (record { list = set (e .list) (e .count) m; count = e .count + 1 }) e .count ≤ e .count + 1
+    go true = omega arith
+    go false = omega arith
+
+-- what adjusted bands come to as an answer
+pub edged : (l : List Interval) → Edged (unless (ltb 0 (length l)) 8 (gave l)) (answerOf (packed l))
+edged [] = record { is = refl; edges = refl }
+edged (x ∷ l) =
+    let z : ltb (suc (length l)) 1 ≡ false = le-ltb (suc (length l)) 1 (omega arith) in
+    let y : ltb 0 (suc (length l)) ≡ true = lt-ltb 0 (suc (length l)) (omega arith) in
+    rw (z, y) (record { is = refl; edges = refl })
+
+pub edged-none : (o : Outcome (List Interval)) (q : Refusal) → refused (refusalNumber q) ≡ o → Edged o (record { edges = packed []; verdict = verdict.Refused q })
+edged-none o q e = rw (← e) (record { is = refl; edges = refl })

@@ -1,0 +1,5 @@
+pub mod Kinds
+pub mod Realizable
+pub mod Edges
+pub mod Adjusted
+pub mod Taps
