@@ -1,22 +1,18 @@
 //! The angle functions of document 01, item 1: ordered `+ - * /` on f64.
 //!
-//! A port of the definitions in `crates/angles/specs`, operation for operation.
+//! A port of `crates/angles`, operation for operation and name for name; a refused call is none.
 
-const PI: f64 = f64::from_bits(0x400921fb54442d18);
-const PI_TAIL: f64 = f64::from_bits(0x3ca1a62633145c07);
-const HALF_PI: f64 = f64::from_bits(0x3ff921fb54442d18);
-const HALF_PI_TAIL: f64 = f64::from_bits(0x3c91a62633145c07);
-/// Up to here an angle is its own reduced angle.
-const FIRST: f64 = f64::from_bits(0x3fe921fb54442d18);
-/// Up to here an angle is reduced by PI / 2, above it by PI.
-const SECOND: f64 = f64::from_bits(0x4002d97c7f3321d2);
+const PI: f64 = std::f64::consts::PI;
+const PI_TAIL: f64 = 1.2246467991473532e-16;
+const HALF_PI: f64 = std::f64::consts::FRAC_PI_2;
+const HALF_PI_TAIL: f64 = 6.123233995736766e-17;
+const QUARTER_PI: f64 = std::f64::consts::FRAC_PI_4;
+const THREE_QUARTERS_PI: f64 = 2.356194490192345;
 
-/// `a` plus `b` times `c`: two roundings.
-fn over(a: f64, b: f64, c: f64) -> f64 {
-    a + b * c
+fn magnitude(x: f64) -> f64 {
+    if x <= 0.0 { 0.0 - x } else { x }
 }
 
-/// A value brought into `low` to `high`.
 fn clamped(x: f64, low: f64, high: f64) -> f64 {
     if x <= high {
         if low <= x { x } else { low }
@@ -25,185 +21,211 @@ fn clamped(x: f64, low: f64, high: f64) -> f64 {
     }
 }
 
-/// Sine of -PI / 4 to PI / 4, by its series to the 17th power.
+fn by_cubic(w: f64, a: f64, b: f64, c: f64, d: f64) -> f64 {
+    a + w * (b + w * (c + w * d))
+}
+
+fn by_square(w: f64, a: f64, b: f64, c: f64) -> f64 {
+    a + w * (b + w * c)
+}
+
+/// Sine by its series: meant for -PI / 4 to PI / 4.
 fn sine_part(r: f64) -> f64 {
     let z = r * r;
     let w = z * z;
-    let even = over(
-        1.0 / 120.0,
+    let even = by_cubic(
         w,
-        over(
-            1.0 / 362880.0,
-            w,
-            over(1.0 / 6227020800.0, w, 1.0 / 355687428096000.0),
-        ),
+        0.008333333333333333,
+        2.7557319223985893e-06,
+        1.6059043836821613e-10,
+        2.8114572543455206e-15,
     );
-    let odd = over(
-        1.0 / 6.0,
+    let odd = by_cubic(
         w,
-        over(
-            1.0 / 5040.0,
-            w,
-            over(1.0 / 39916800.0, w, 1.0 / 1307674368000.0),
-        ),
+        0.16666666666666666,
+        0.0001984126984126984,
+        2.505210838544172e-08,
+        7.647163731819816e-13,
     );
     r + r * (z * (z * even - odd))
 }
 
-/// Cosine of -PI / 4 to PI / 4, by its series to the 16th power.
+/// Cosine by its series: meant for -PI / 4 to PI / 4.
 fn cosine_part(r: f64) -> f64 {
     let z = r * r;
     let w = z * z;
-    let even = over(
-        1.0 / 24.0,
+    let even = by_cubic(
         w,
-        over(
-            1.0 / 40320.0,
-            w,
-            over(1.0 / 479001600.0, w, 1.0 / 20922789888000.0),
-        ),
+        0.041666666666666664,
+        2.48015873015873e-05,
+        2.08767569878681e-09,
+        4.779477332387385e-14,
     );
-    let odd = over(
-        1.0 / 720.0,
+    let odd = by_square(
         w,
-        over(1.0 / 3628800.0, w, 1.0 / 87178291200.0),
+        0.001388888888888889,
+        2.755731922398589e-07,
+        1.1470745597729725e-11,
     );
     1.0 - (0.5 * z - w * (even - z * odd))
 }
 
-/// Cosine of 0 to 3.25, else none.
+fn is_taken(x: f64) -> bool {
+    (0.0..=3.25).contains(&x)
+}
+
+fn folded_cosine(x: f64) -> f64 {
+    if x <= QUARTER_PI {
+        return cosine_part(x);
+    }
+    if x <= THREE_QUARTERS_PI {
+        return sine_part((HALF_PI - x) + HALF_PI_TAIL);
+    }
+    0.0 - cosine_part((PI - x) + PI_TAIL)
+}
+
+fn folded_sine(x: f64) -> f64 {
+    if x <= QUARTER_PI {
+        return sine_part(x);
+    }
+    if x <= THREE_QUARTERS_PI {
+        return cosine_part((HALF_PI - x) + HALF_PI_TAIL);
+    }
+    sine_part((PI - x) + PI_TAIL)
+}
+
+/// The cosine of an angle from 0 to 3.25.
 pub fn cosine(x: f64) -> Option<f64> {
-    if !(0.0 <= x && x <= 3.25) {
-        return None;
-    }
-    let y = if x <= FIRST {
-        cosine_part(x)
-    } else if x <= SECOND {
-        sine_part((HALF_PI - x) + HALF_PI_TAIL)
-    } else {
-        0.0 - cosine_part((PI - x) + PI_TAIL)
-    };
-    Some(clamped(y, -1.0, 1.0))
+    is_taken(x).then(|| clamped(folded_cosine(x), -1.0, 1.0))
 }
 
-/// Sine of 0 to 3.25, else none.
+/// The sine of an angle from 0 to 3.25.
 pub fn sine(x: f64) -> Option<f64> {
-    if !(0.0 <= x && x <= 3.25) {
-        return None;
-    }
-    let y = if x <= FIRST {
-        sine_part(x)
-    } else if x <= SECOND {
-        cosine_part((HALF_PI - x) + HALF_PI_TAIL)
-    } else {
-        sine_part((PI - x) + PI_TAIL)
-    };
-    Some(clamped(y, -1.0, 1.0))
+    is_taken(x).then(|| clamped(folded_sine(x), -1.0, 1.0))
 }
 
+/// A number scaled by powers of four, and what its root is multiplied by in the end.
+#[derive(Clone, Copy)]
 struct Scaled {
     square: f64,
     unit: f64,
 }
 
-impl Scaled {
-    fn raised(self, below: f64, by: f64, back: f64) -> Scaled {
-        if self.square < below {
-            Scaled {
-                square: self.square * by,
-                unit: self.unit * back,
-            }
-        } else {
-            self
+fn raised(bound: f64, up: f64, down: f64, s: Scaled) -> Scaled {
+    if s.square < bound {
+        Scaled {
+            square: s.square * up,
+            unit: s.unit * down,
         }
+    } else {
+        s
     }
 }
 
-fn heron(square: f64, y: f64) -> f64 {
-    0.5 * (y + square / y)
+/// Into 2^-10 to 2^-2.
+fn lifted(s: Scaled) -> Scaled {
+    if s.square < 0.0009765625 {
+        let a = raised(3.725290298461914e-09, 67108864.0, 0.0001220703125, s);
+        let b = raised(1.52587890625e-05, 16384.0, 0.0078125, a);
+        raised(0.0009765625, 256.0, 0.0625, b)
+    } else {
+        s
+    }
 }
 
-/// Square root of 0 or 2^-54 to 1/4.
+/// Into 2^-4 to 2^-2.
+fn settled(s: Scaled) -> Scaled {
+    if s.square < 0.0625 {
+        let a = raised(0.015625, 16.0, 0.25, s);
+        raised(0.0625, 4.0, 0.5, a)
+    } else {
+        s
+    }
+}
+
+fn heron_step(z: f64, y: f64) -> f64 {
+    0.5 * (y + z / y)
+}
+
+fn root_in(s: Scaled) -> f64 {
+    let z = s.square;
+    let a = 0.136 + z * (2.0 - 2.2 * z);
+    let b = heron_step(z, a);
+    let c = heron_step(z, b);
+    let y = heron_step(z, c);
+    y * s.unit
+}
+
+/// The square root: meant for 0 and for 2^-54 to 1/4.
 fn root(z: f64) -> f64 {
     if z == 0.0 {
         return 0.0;
     }
-    let two = |k: i32| f64::powi(2.0, k);
     let s = Scaled {
         square: z,
         unit: 1.0,
-    }
-    .raised(two(-28), two(26), two(-13))
-    .raised(two(-16), two(14), two(-7))
-    .raised(two(-10), two(8), two(-4))
-    .raised(two(-6), two(4), two(-2))
-    .raised(two(-4), two(2), two(-1));
-    let y = 0.136 + s.square * (2.0 - 2.2 * s.square);
-    let y = heron(s.square, y);
-    let y = heron(s.square, y);
-    let y = heron(s.square, y);
-    y * s.unit
+    };
+    let t = lifted(s);
+    let u = settled(t);
+    root_in(u)
 }
 
-/// (arcsine of s - s) / s^3 for z = s^2 from 0 to 1/4.
+fn even_terms(w: f64) -> f64 {
+    0.16666666666666669
+        + w * (0.04464285714635543
+            + w * (0.02237217294214989
+                + w * (0.013971212973552933
+                    + w * (0.01032281435018578
+                        + w * (0.01740087944269402 + w * 0.028757851367421566)))))
+}
+
+fn odd_terms(w: f64) -> f64 {
+    0.07499999999998433
+        + w * (0.030381944138531247
+            + w * (0.017352392720869973
+                + w * (0.011479177415184906
+                    + w * (0.005457506718640358 - w * 0.014851887071247204))))
+}
+
 fn arcsine_part(z: f64) -> f64 {
     let w = z * z;
-    let even = over(
-        A[0],
-        w,
-        over(
-            A[2],
-            w,
-            over(A[4], w, over(A[6], w, over(A[8], w, over(A[10], w, A[12])))),
-        ),
-    );
-    let odd = over(
-        A[1],
-        w,
-        over(A[3], w, over(A[5], w, over(A[7], w, over(A[9], w, A[11])))),
-    );
-    over(even, z, odd)
+    even_terms(w) + z * odd_terms(w)
 }
 
-const A: [f64; 13] = [
-    f64::from_bits(0x3fc5555555555556),
-    f64::from_bits(0x3fb3333333332eca),
-    f64::from_bits(0x3fa6db6db6e31f13),
-    f64::from_bits(0x3f9f1c71c1db0623),
-    f64::from_bits(0x3f96e8bb1c8209a2),
-    f64::from_bits(0x3f91c4d35cf95421),
-    f64::from_bits(0x3f8c9cf07674736a),
-    f64::from_bits(0x3f8782651caa6547),
-    f64::from_bits(0x3f852420b04b37be),
-    f64::from_bits(0x3f765a9c4dfcf8b2),
-    f64::from_bits(0x3f91d189408314ee),
-    f64::from_bits(0xbf8e6aaa8a0a04cc),
-    f64::from_bits(0x3f9d72b2bc8155f8),
-];
+fn arcsine_of(s: f64, z: f64) -> f64 {
+    s + s * (z * arcsine_part(z))
+}
 
-/// Arccosine of -1 to 1, else none.
-pub fn arccosine(x: f64) -> Option<f64> {
-    if !(-1.0 <= x && x <= 1.0) {
-        return None;
-    }
-    let a = if x <= 0.0 { 0.0 - x } else { x };
-    let y = if a <= 0.5 {
-        let z = a * a;
-        let t = a + a * (z * arcsine_part(z));
-        if x <= 0.0 {
-            HALF_PI + (t + HALF_PI_TAIL)
-        } else {
-            HALF_PI - (t - HALF_PI_TAIL)
-        }
+fn near(x: f64) -> f64 {
+    let a = magnitude(x);
+    let t = arcsine_of(a, a * a);
+    if x <= 0.0 {
+        HALF_PI + (t + HALF_PI_TAIL)
     } else {
-        let z = 0.5 * (1.0 - a);
-        let s = root(z);
-        let t = s + s * (z * arcsine_part(z));
-        if x <= 0.0 {
-            PI - (2.0 * t - PI_TAIL)
-        } else {
-            2.0 * t
-        }
-    };
-    Some(clamped(y, 0.0, PI))
+        HALF_PI - (t - HALF_PI_TAIL)
+    }
+}
+
+fn far(x: f64) -> f64 {
+    let a = magnitude(x);
+    let z = 0.5 * (1.0 - a);
+    let t = arcsine_of(root(z), z);
+    if x <= 0.0 {
+        PI - (2.0 * t - PI_TAIL)
+    } else {
+        2.0 * t
+    }
+}
+
+fn is_in_unit(x: f64) -> bool {
+    (-1.0..=1.0).contains(&x)
+}
+
+fn folded_arccosine(x: f64) -> f64 {
+    if magnitude(x) <= 0.5 { near(x) } else { far(x) }
+}
+
+/// The arccosine of a number from -1 to 1.
+pub fn arccosine(x: f64) -> Option<f64> {
+    is_in_unit(x).then(|| clamped(folded_arccosine(x), 0.0, PI))
 }
