@@ -1,5 +1,5 @@
 -- No second answer fits: an answer is settled by its outcome, as a refusal is by its number. So a contract
--- `scalarOf r ≡ o` or `Filled o n r w w'` has one answer, and one that says `r ≡ o` of a plain value has one by itself.
+-- `scalarOf r ≡ o`, `Filled o n r w w'` or `Answers none o v a` has one answer, and one that says `r ≡ o` of a plain value has one by itself.
 -- Assumes nothing.
 use Prim.Native.Nat.{ℕ}
 use mathlib.Core.Path.{_≡_, refl, sym, ap, _∙_}
@@ -14,7 +14,7 @@ use Rattle.numbers.specs.declared.Scalar.the-variants as scalar
 use Rattle.numbers.specs.Outcome.{Outcome, refused, gave}
 use Rattle.numbers.specs.declared.Verdict.{Verdict}
 use Rattle.numbers.specs.declared.Verdict.the-variants as verdict
-use Rattle.numbers.specs.Refusals.{refusalNumber, scalarOf, verdictOf, Filled}
+use Rattle.numbers.specs.Refusals.{refusalNumber, scalarOf, verdictOf, Filled, Answers}
 
 -- the refusals by their number
 abbrev refusals : List Refusal
@@ -66,3 +66,6 @@ verdict-unique (verdict.Refused p) (verdict.Refused q) x y e = ap verdict.Refuse
 -- what a leaf answers and writes is settled by its outcome and the lent list
 pub filled-unique : {A : Type 0} {o : Outcome (List A)} {n : ℕ} {a b : Verdict} {w u v : List A} → Filled o n a w u → Filled o n b w v → (a ≡ b) × (u ≡ v)
 filled-unique {A} {o} {n} {a} {b} {w} {u} {v} f g = (verdict-unique a b (take n u) (take n v) (f .is ∙ sym (g .is)), f .out ∙ sym (g .out))
+
+pub answers-unique : {A : Type 0} {none : A} {o : Outcome A} {u v : Verdict} {a b : A} → Answers none o u a → Answers none o v b → (u ≡ v) × (a ≡ b)
+answers-unique {A} {none} {o} {u} {v} {a} {b} f g = (verdict-unique u v a b (f .is ∙ sym (g .is)), f .value ∙ sym (g .value))

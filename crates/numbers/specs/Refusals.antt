@@ -48,3 +48,12 @@ front (gave l) w = l ++ drop (length l) w
 pub record Filled {A : Type 0} (o : Outcome (List A)) (n : ℕ) (r : Verdict) (w w' : List A) : Type 0 where
   pub is : verdictOf r (take n w') ≡ o
   pub out : w' ≡ front o w
+
+-- The contract of a leaf whose answer is a verdict beside a value a: the value that was given, and a fixed one where none was.
+abbrev pub givenOr : {A : Type 0} → A → Outcome A → A
+givenOr none (refused n) = none
+givenOr none (gave a) = a
+
+pub record Answers {A : Type 0} (none : A) (o : Outcome A) (v : Verdict) (a : A) : Type 0 where
+  pub is : verdictOf v a ≡ o
+  pub value : a ≡ givenOr none o
