@@ -7,7 +7,7 @@ use native.Mathlib.Omega.{arith}
 use native.Mathlib.Numerals.{add-one}
 use lib.Ieee.{Float}
 use native.Mathlib.Nat.{sub-zero}
-use lib.ListN.{length, getD, set, take, drop, drop-of-length-le}
+use lib.ListN.{length, getD, set, take, drop, drop-of-length-le, length-append}
 use lib.Seq.{drop-cons, take-at, take-suc-set}
 use borrow.Author.Needs.{needs}
 use Rattle.numbers.specs.declared.Refusal.{Refusal}
@@ -15,8 +15,10 @@ use Rattle.numbers.specs.declared.Scalar.{Scalar}
 use Rattle.numbers.specs.declared.Scalar.the-variants as scalar
 use Rattle.numbers.specs.declared.Verdict.{Verdict}
 use Rattle.numbers.specs.declared.Verdict.the-variants as verdict
+use Rattle.numbers.specs.declared.Count.{Count}
+use Rattle.numbers.specs.declared.Count.the-variants as count
 use Rattle.numbers.specs.Outcome.{Outcome, refused, gave, bind, sweep, gather}
-use Rattle.numbers.specs.Refusals.{refusalNumber, scalarOf, verdictOf, Filled}
+use Rattle.numbers.specs.Refusals.{refusalNumber, scalarOf, verdictOf, countOf, few, Filled, Wrote}
 
 -- ---- a return: what was given so far, and what follows; or the refusal
 pub bind-next : {A B : Type 0} {a : A} {o : Outcome A} {z : Outcome B} (k : A → Outcome B) → gave a ≡ o → z ≡ k a → z ≡ bind o k
@@ -34,6 +36,17 @@ fills {A} {o} {n} {w} {w'} l e h k =
     record {
       is = let z : take n w' ≡ l = rw k (take-at l (drop (length l) w) n h) in rw z e;
       out = rw (← e) k;
+    }
+
+pub writes-none : {A : Type 0} {o : Outcome (List A)} {q : Refusal} {w : List A} → refused (refusalNumber q) ≡ o → Wrote o (count.Refused q) w w
+writes-none {A} {o} {q} {w} e = record { is = e; out = rw (← e); room = omega arith }
+
+pub writes : {A : Type 0} {o : Outcome (List A)} {n : ℕ} {w w' : List A} (l : List A) → gave l ≡ o → length l ≡ n → w' ≡ l ++ drop (length l) w → Wrote o (count.Of n) w w'
+writes {A} {o} {n} {w} {w'} l e h k =
+    record {
+      is = let z : take n w' ≡ l = rw k (take-at l (drop (length l) w) n h) in rw z e;
+      out = rw (← e) k;
+      room = rw k (omega (arith, length-append l (drop (length l) w), h));
     }
 
 -- the count of what is written, worked out
@@ -55,7 +68,17 @@ module _ {A : Type 0} {o : Outcome (List A)} {n : ℕ} {r : Verdict} {w w' : Lis
   pub filled-refused : {q : Refusal} → r ≡ verdict.Refused q → refused (refusalNumber q) ≡ o
   filled-refused e = let k : verdictOf r (take n w') ≡ o = a .is in rw e at k
 
-pub ruleset chains = (needs, bind-next, bind-stop, value-is, value-refused, filled-is, filled-refused)
+module _ {A : Type 0} {o : Outcome (List A)} {r : Count} {w w' : List A} (a : Wrote o r w w') where
+  pub count-is : {n : ℕ} → r ≡ count.Of n → gave (take n w') ≡ o
+  count-is e = let k : countOf r w' ≡ o = a .is in rw e at k
+
+  pub count-refused : {q : Refusal} → r ≡ count.Refused q → refused (refusalNumber q) ≡ o
+  count-refused e = let k : countOf r w' ≡ o = a .is in rw e at k
+
+  pub count-room : {n : ℕ} → r ≡ count.Of n → n ≤ length w'
+  count-room e = let k : few r ≤ length w' = a .room in rw e at k
+
+pub ruleset chains = (needs, bind-next, bind-stop, value-is, value-refused, filled-is, filled-refused, count-is, count-refused)
 
 -- ---- a sweep in progress: what is left from i on, from the state s, gives r
 pub record Sweeping {A S : Type 0} (f : A → S → Outcome S) (xs : List A) (i : ℕ) (s : S) (r : Outcome S) : Type 0 where

@@ -1,5 +1,5 @@
 -- Document 01's number of each refusal, and the outcome that each answer stands for.
-use Prim.Native.Nat.{ℕ}
+use Prim.Native.Nat.{ℕ, _≤_}
 use mathlib.Core.List.{List, _++_}
 use mathlib.Core.Path.{_≡_}
 use lib.ListN.{length, take, drop}
@@ -10,6 +10,8 @@ use Rattle.numbers.specs.declared.Scalar.{Scalar}
 use Rattle.numbers.specs.declared.Scalar.the-variants as scalar
 use Rattle.numbers.specs.declared.Verdict.{Verdict}
 use Rattle.numbers.specs.declared.Verdict.the-variants as verdict
+use Rattle.numbers.specs.declared.Count.{Count}
+use Rattle.numbers.specs.declared.Count.the-variants as count
 use Rattle.numbers.specs.Outcome.{Outcome, refused, gave}
 
 abbrev pub refusalNumber : Refusal → ℕ
@@ -38,6 +40,15 @@ abbrev pub verdictOf : {A : Type 0} → Verdict → A → Outcome A
 verdictOf verdict.Taken a = gave a
 verdictOf (verdict.Refused r) a = refused (refusalNumber r)
 
+-- of a leaf that has written as many at the front of a list
+abbrev pub countOf : {A : Type 0} → Count → List A → Outcome (List A)
+countOf (count.Of n) l = gave (take n l)
+countOf (count.Refused r) l = refused (refusalNumber r)
+
+abbrev pub few : Count → ℕ
+few (count.Of n) = n
+few (count.Refused r) = 0
+
 -- a lent list with what was given in front, as it was beyond; all as it was where that was refused
 abbrev pub front : {A : Type 0} → Outcome (List A) → List A → List A
 front (refused n) w = w
@@ -48,6 +59,12 @@ front (gave l) w = l ++ drop (length l) w
 pub record Filled {A : Type 0} (o : Outcome (List A)) (n : ℕ) (r : Verdict) (w w' : List A) : Type 0 where
   pub is : verdictOf r (take n w') ≡ o
   pub out : w' ≡ front o w
+
+-- The contract of one that answers how many it has written.
+pub record Wrote {A : Type 0} (o : Outcome (List A)) (r : Count) (w w' : List A) : Type 0 where
+  pub is : countOf r w' ≡ o
+  pub out : w' ≡ front o w
+  pub room : few r ≤ length w'
 
 -- The contract of a leaf whose answer is a verdict beside a value a: the value that was given, and a fixed one where none was.
 abbrev pub givenOr : {A : Type 0} → A → Outcome A → A

@@ -41,6 +41,12 @@ pub enum Verdict {
     Refused(Refusal),
 }
 
+// The answer of a leaf that writes a list whose length is part of the answer.
+pub enum Count {
+    Of(usize),
+    Refused(Refusal),
+}
+
 // Document 01's number of a refusal.
 pub fn number(r: Refusal) -> u64
     ensures { λ n. ⌜ n ≡ refusalNumber r ⌝ }
