@@ -9,9 +9,9 @@ use lib.ListN.{length, getD, drop, drop-of-length-le}
 use lib.Seq.{drop-cons}
 use native.Mathlib.Omega.{arith}
 use lib.Dec.{T}
-use lib.Ieee.{Float, nan, inf, fin, binary64, div, ofBits, lt, neg, isNan}
+use lib.Ieee.{Float, nan, inf, fin, binary64, div, ofBits, lt, le, eq, neg, isNan}
 use lib.Ieee.Scale.{finite}
-use Rattle.numbers.specs.Floats.{zero64, one64, allFinite}
+use Rattle.numbers.specs.Floats.{zero64, one64, allFinite, Inside}
 use Rattle.numbers.specs.Outcome.{gave, neededOf}
 use Rattle.numbers.proofs.Order.{and-1, and-2}
 
@@ -61,3 +61,15 @@ unfolding allFinite
 finite-at [] i h l = absurd (not-suc-le-zero l)
 finite-at (x ∷ xs) zero h l = and-1 (finite x) (allFinite xs) h
 finite-at (x ∷ xs) (suc i) h l = finite-at xs i (and-2 (finite x) (allFinite xs) h) (le-of-suc-le-suc l)
+
+-- a number between two finite ones is finite
+pub inside-finite : (low high x : Float) → finite low ≡ true → finite high ≡ true → Inside low high x → finite x ≡ true
+unfolding le lt eq isNan
+inside-finite low high nan p q i = sym (i .number)
+inside-finite (fin s m e) high (inf true) p q i = i .least
+inside-finite low (fin s m e) (inf false) p q i = i .most
+inside-finite nan high (inf true) p q i = p
+inside-finite (inf s) high (inf true) p q i = p
+inside-finite low nan (inf false) p q i = q
+inside-finite low (inf s) (inf false) p q i = q
+inside-finite low high (fin s m e) p q i = refl

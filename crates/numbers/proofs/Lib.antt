@@ -1,6 +1,8 @@
 pub mod LoopLaws
 pub mod Lanes
+pub mod InPlace
 pub mod OutcomeLaws
+pub mod Given
 pub mod Unique
 pub mod Order
 pub mod Value

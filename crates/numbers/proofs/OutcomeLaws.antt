@@ -61,6 +61,13 @@ module _ {o : Outcome Float} {r : Scalar} (a : scalarOf r ≡ o) where
   pub value-refused : {q : Refusal} → r ≡ scalar.Refused q → refused (refusalNumber q) ≡ o
   value-refused e = rw e at a
 
+module _ {A : Type 0} {o : Outcome A} {r : Verdict} (x : A) (a : verdictOf r x ≡ o) where
+  pub taken-is : r ≡ verdict.Taken → gave x ≡ o
+  taken-is e = rw e at a
+
+  pub taken-refused : {q : Refusal} → r ≡ verdict.Refused q → refused (refusalNumber q) ≡ o
+  taken-refused e = rw e at a
+
 module _ {A : Type 0} {o : Outcome (List A)} {n : ℕ} {r : Verdict} {w w' : List A} (a : Filled o n r w w') where
   pub filled-is : (m : ℕ) → n ≡ m → r ≡ verdict.Taken → gave (take m w') ≡ o
   filled-is m e h = let k : verdictOf r (take n w') ≡ o = a .is in rw (← e) (rw h at k)
@@ -78,7 +85,7 @@ module _ {A : Type 0} {o : Outcome (List A)} {r : Count} {w w' : List A} (a : Wr
   pub count-room : {n : ℕ} → r ≡ count.Of n → n ≤ length w'
   count-room e = let k : few r ≤ length w' = a .room in rw e at k
 
-pub ruleset chains = (needs, bind-next, bind-stop, value-is, value-refused, filled-is, filled-refused, count-is, count-refused)
+pub ruleset chains = (needs, bind-next, bind-stop, value-is, value-refused, taken-is, taken-refused, filled-is, filled-refused, count-is, count-refused)
 
 -- ---- a sweep in progress: what is left from i on, from the state s, gives r
 pub record Sweeping {A S : Type 0} (f : A → S → Outcome S) (xs : List A) (i : ℕ) (s : S) (r : Outcome S) : Type 0 where

@@ -1,0 +1,4 @@
+pub mod Halves
+pub mod NodeLaws
+pub mod Sums
+pub mod CoefficientLaws

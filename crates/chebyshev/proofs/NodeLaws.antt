@@ -1,0 +1,71 @@
+-- The nodes that are given: degree + 1 of them, each finite and in -1 to 1. Assumes nothing.
+use Prim.Native.Nat.{ℕ, _+_, _<_, _≤_}
+use mathlib.Core.Path.{_≡_, refl, sym}
+use mathlib.Core.Bool.{true, _&&_}
+use mathlib.Core.List.{List}
+use native.Mathlib.Omega.{arith}
+use borrow.Author.Tests.{lt-ltb, le-leb}
+use lib.Dec.{leb, ltb}
+use lib.ListN.{length, getD}
+use lib.Ieee.{Float, nan, neg, ofBits}
+use lib.Ieee.Scale.{finite}
+use Rattle.numbers.specs.Floats.{one64, Inside, allFinite}
+use Rattle.numbers.specs.Outcome.{Outcome, refused, gave, gather, unless, neededListOf}
+use Rattle.numbers.specs.Refusals.{Filled}
+use Rattle.numbers.specs.declared.Verdict.{Verdict}
+use Rattle.numbers.proofs.FiniteLaws.{inside-finite}
+use Rattle.numbers.proofs.Given.{unless-given, gather-length, gather-at, gather-finite}
+use Rattle.angles.specs.Turns.{cosineOf}
+use Rattle.angles.proofs.Range.{cosine-range}
+use Rattle.chebyshev.specs.Angles.{nodeAngle}
+use Rattle.chebyshev.specs.Nodes.{nodesFor}
+
+least-finite : finite (neg one64) ≡ true
+unfolding neg ofBits
+least-finite = refl
+
+most-finite : finite one64 ≡ true
+unfolding ofBits
+most-finite = refl
+
+pub cosine-finite : (x y : Float) → cosineOf x ≡ gave y → finite y ≡ true
+cosine-finite x y e = inside-finite (neg one64) one64 y least-finite most-finite (cosine-range x y e)
+
+-- the cosines of the nodes' angles
+abbrev pub cosines : ℕ → Outcome (List Float)
+cosines n = gather (λ j. cosineOf (nodeAngle n j)) (n + 1) 0
+
+cosines-length : (n : ℕ) (l : List Float) → cosines n ≡ gave l → length l ≡ n + 1
+cosines-length n l e = gather-length (λ j. cosineOf (nodeAngle n j)) (n + 1) 0 l e
+
+cosines-finite : (n : ℕ) (l : List Float) → cosines n ≡ gave l → allFinite l ≡ true
+cosines-finite n l e = gather-finite (λ j. cosineOf (nodeAngle n j)) (λ j y. cosine-finite (nodeAngle n j) y) (n + 1) 0 l e
+
+nodes-same : (n room : ℕ) (l : List Float) → n < room → 2 ≤ n → n ≤ 16 → gave l ≡ cosines n → nodesFor n room ≡ neededListOf l room
+unfolding nodesFor
+nodes-same n room l h p q e =
+    let k : length l ≤ room = omega (arith, cosines-length n l (sym e)) in
+    rw (lt-ltb n room h, le-leb 2 n p, le-leb n 16 q, le-leb (length l) room k, cosines-finite n l (sym e)) (sym e)
+
+-- the cosines written as a finished list are the nodes
+pub nodes-filled : (n : ℕ) (l w w' : List Float) (r : Verdict) → Filled (neededListOf l (length w)) (length l) r w w' → n < length w → 2 ≤ n → n ≤ 16 → gave l ≡ cosines n → Filled (nodesFor n (length w)) (n + 1) r w w'
+nodes-filled n l w w' r f h p q e = rw (← cosines-length n l (sym e), nodes-same n (length w) l h p q e) f
+
+pub nodes-refused : (n room k : ℕ) → n < room → 2 ≤ n → n ≤ 16 → refused k ≡ cosines n → refused k ≡ nodesFor n room
+unfolding nodesFor
+nodes-refused n room k h p q e = rw (lt-ltb n room h, le-leb 2 n p, le-leb n 16 q) e
+
+-- ---- a list that was given
+module _ (n room : ℕ) (l : List Float) (e : nodesFor n room ≡ gave l) where
+  cosines-given : cosines n ≡ gave l
+  unfolding nodesFor
+  cosines-given = unless-given (leb 2 n && leb n 16) 5 (cosines n) (unless-given (ltb n room) 15 (unless (leb 2 n && leb n 16) 5 (cosines n)) e .rest) .rest
+
+  pub nodes-length : length l ≡ n + 1
+  nodes-length = cosines-length n l cosines-given
+
+  pub nodes-finite : allFinite l ≡ true
+  nodes-finite = cosines-finite n l cosines-given
+
+  pub nodes-range : (k : ℕ) → k < n + 1 → Inside (neg one64) one64 (getD l k nan)
+  nodes-range k h = cosine-range (nodeAngle n (0 + k)) (getD l k nan) (gather-at (λ j. cosineOf (nodeAngle n j)) (n + 1) 0 l k nan cosines-given h)

@@ -1,0 +1,4 @@
+pub mod Angles
+pub mod Nodes
+pub mod Coefficients
+pub mod Places
