@@ -2,11 +2,12 @@
 use Prim.Native.Nat.{ℕ, _+_, _<_, _≤_}
 use mathlib.Core.Path.{_≡_, refl, sym}
 use mathlib.Core.Bool.{true, _&&_}
-use mathlib.Core.List.{List}
+use mathlib.Core.List.{List, _++_}
 use native.Mathlib.Omega.{arith}
 use borrow.Author.Tests.{lt-ltb, le-leb}
 use lib.Dec.{leb, ltb}
-use lib.ListN.{length, getD}
+use lib.ListN.{length, getD, take}
+use lib.Seq.{take-at}
 use lib.Ieee.{Float, nan, neg, ofBits}
 use lib.Ieee.Scale.{finite}
 use Rattle.numbers.specs.Floats.{one64, Inside, allFinite}
@@ -35,7 +36,7 @@ cosine-finite x y e = inside-finite (neg one64) one64 y least-finite most-finite
 abbrev pub cosines : ℕ → Outcome (List Float)
 cosines n = gather (λ j. cosineOf (nodeAngle n j)) (n + 1) 0
 
-cosines-length : (n : ℕ) (l : List Float) → cosines n ≡ gave l → length l ≡ n + 1
+pub cosines-length : (n : ℕ) (l : List Float) → cosines n ≡ gave l → length l ≡ n + 1
 cosines-length n l e = gather-length (λ j. cosineOf (nodeAngle n j)) (n + 1) 0 l e
 
 cosines-finite : (n : ℕ) (l : List Float) → cosines n ≡ gave l → allFinite l ≡ true
@@ -47,9 +48,11 @@ nodes-same n room l h p q e =
     let k : length l ≤ room = omega (arith, cosines-length n l (sym e)) in
     rw (lt-ltb n room h, le-leb 2 n p, le-leb n 16 q, le-leb (length l) room k, cosines-finite n l (sym e)) (sym e)
 
--- the cosines written as a finished list are the nodes
-pub nodes-filled : (n : ℕ) (l w w' : List Float) (r : Verdict) → Filled (neededListOf l (length w)) (length l) r w w' → n < length w → 2 ≤ n → n ≤ 16 → gave l ≡ cosines n → Filled (nodesFor n (length w)) (n + 1) r w w'
-nodes-filled n l w w' r f h p q e = rw (← cosines-length n l (sym e), nodes-same n (length w) l h p q e) f
+-- the cosines at the front of a longer list, written as a finished list, are the nodes
+pub nodes-filled : (n : ℕ) (l rest w w' : List Float) (r : Verdict) → Filled (neededListOf (take (n + 1) (l ++ rest)) (length w)) (length (take (n + 1) (l ++ rest))) r w w' → n < length w → 2 ≤ n → n ≤ 16 → gave l ≡ cosines n → Filled (nodesFor n (length w)) (n + 1) r w w'
+nodes-filled n l rest w w' r f h p q e =
+    let k = cosines-length n l (sym e) in
+    rw (← k, nodes-same n (length w) l h p q e) (rw (take-at l rest (n + 1) k) at f)
 
 pub nodes-refused : (n room k : ℕ) → n < room → 2 ≤ n → n ≤ 16 → refused k ≡ cosines n → refused k ≡ nodesFor n room
 unfolding nodesFor

@@ -1,18 +1,17 @@
 -- `chebyshev::chebyshev_nodes` meets its contract. Assumes nothing.
-use Prim.Native.Nat.{_+_}
-use mathlib.Core.Path.{ap, _≡_, sym, _∙_}
+use mathlib.Core.Path.{sym}
 use native.Mathlib.Omega.{arith}
 use borrow.Author.Tests.{lt-ltb, le-ltb, lt-leb, le-leb}
 use borrow.Author.Needs.{needs}
-use lib.ListN.{take, replicate, length-append, length}
-use lib.Seq.{length-take-le, take-at}
-use Rattle.numbers.specs.Floats.{zero64}
-use Rattle.numbers.specs.Outcome.{gave}
+use lib.ListN.{length-append}
+use lib.Seq.{length-take-le}
 use Rattle.numbers.proofs.OutcomeLaws.{fills-none, taken-is, taken-refused}
 use Rattle.chebyshev.specs.Nodes.{nodesFor}
-use Rattle.chebyshev.proofs.NodeLaws.{nodes-filled, nodes-refused}
+use Rattle.chebyshev.proofs.NodeLaws.{cosines-length, nodes-filled, nodes-refused}
 use Rattle.chebyshev.proofs.chebyshev_nodes.Statement.{statement}
 use Rattle.chebyshev.proofs.chebyshev_nodes.Tie as tie
+
+-- `chebyshev::chebyshev_nodes` meets its contract. Assumes nothing.
 
 returns : tie.Need-returns
 unfolding nodesFor
@@ -43,8 +42,7 @@ enum-told c = search needs
 
 array-share-prefix-x : tie.Need-array-share-prefix-x
 array-share-prefix-x c =
-    let k : length (c .before .before .before .node-cosines .last .1 .0) ≡ length (take (c .before .before .before .before .before .before .before .before .before .args .n + 1) (replicate 17 zero64)) = search needs in
-    let q : length (c .before .before .before .node-cosines .last .1 .0) ≡ c .before .before .before .before .before .before .before .before .before .args .n + 1 = k ∙ length-take-le _ (replicate 17 zero64) (omega arith) in
+    let q = cosines-length _ _ (sym (taken-is _ (c .before .before .before .node-cosines .ensures) (c .enum-told .given .1))) in
     simp length-append (omega arith)
 
 slice-aggregate-needed-list : tie.Need-slice-aggregate-needed-list
@@ -61,10 +59,10 @@ same-length c = search needs
 
 returns-4 : tie.Need-returns-4
 returns-4 c =
-    let k : length (c .before .before .before .before .before .before .before .before .node-cosines .last .1 .0) ≡ length (take (c .before .before .before .before .before .before .before .before .before .before .before .before .before .before .args .n + 1) (replicate 17 zero64)) = search needs in
-    let q : length (c .before .before .before .before .before .before .before .before .node-cosines .last .1 .0) ≡ c .before .before .before .before .before .before .before .before .before .before .before .before .before .before .args .n + 1 = k ∙ length-take-le _ (replicate 17 zero64) (omega arith) in
-    nodes-filled _ _ _ _ _ (c .before .before .needed-list .ensures) (omega arith) (omega arith) (omega arith)
-    (ap (λ z. gave z) (take-at _ _ _ q) ∙ taken-is _ (c .before .before .before .before .before .before .before .before .node-cosines .ensures) (c .before .before .before .before .before .enum-told .given .1))
+    let written = c .before .before in
+    let told = written .before .before .before in
+    nodes-filled _ _ _ _ _ _ (written .needed-list .ensures) (omega arith) (omega arith) (omega arith)
+    (taken-is _ (told .before .before .before .node-cosines .ensures) (told .enum-told .given .1))
 
 returns-5 : tie.Need-returns-5
 returns-5 c =

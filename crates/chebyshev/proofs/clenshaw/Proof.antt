@@ -15,6 +15,8 @@ use Rattle.chebyshev.proofs.Sums.{turn-back, places-end}
 use Rattle.chebyshev.proofs.clenshaw.Statement.{statement}
 use Rattle.chebyshev.proofs.clenshaw.Tie as tie
 
+-- `chebyshev::clenshaw` meets its contract. Assumes nothing.
+
 abbrev Inv-loop : tie.InvT-loop
 Inv-loop a x n m b1₀ b2₀ t₀ b1 b2 t =
     (length b1 ≡ 64)
@@ -75,9 +77,10 @@ loop-less c = search needs
 
 loop-again : tie.Need-loop-again Inv-loop μ-loop
 loop-again c =
-    let l = c .before .before .before .before .before .before .before .before .loop in
-    let x = c .before .before .before .before .before .before .before .before .before .before .before .before .args .x .now in
     let r = c .before .before .clenshaw-row in
+    let turn = c .before .before .before .before .before .before .before .before in
+    let l = turn .loop in
+    let x = turn .before .before .before .before .args .x .now in
     let p : length (r .last .1 .1 .0) ≡ length (take (length x) (l .b1)) = search needs in
     let q : length (r .last .1 .1 .1 .0) ≡ length (take (length x) (l .b2)) = search needs in (
       length-front (l .b1) (r .last .1 .1 .0) (length x) p ∙ l .inv .0,
@@ -118,10 +121,13 @@ same-length c = search needs
 
 returns : tie.Need-returns Inv-loop μ-loop
 returns c =
-    let g = c .before .before .before .before .before .before .before .before .before .before .before .before .before .args in
-    let l = c .before .before .before .before .before .before .before .before .before .loop in
-    c .before .before .clenshaw-ends .ensures
-    ∙ places-end (g .a .now) (g .x .now) _ _ _ (omega arith) (length-take-le _ _ (omega arith)) (length-take-le _ _ (omega arith)) (end (l .inv .2) (omega arith)) (c .before .before .before .before .before .whole .ensures)
+    let ends = c .before .before in
+    let n = ends .before .before .before in
+    let turned = n .before .before .before .before in
+    let g = turned .before .before .before .before .args in
+    ends .clenshaw-ends .ensures
+    ∙ places-end (g .a .now) (g .x .now) _ _ _ (omega arith) (length-take-le _ _ (omega arith)) (length-take-le _ _ (omega arith))
+    (end (turned .loop .inv .2) (omega arith)) (n .whole .ensures)
 
 pub clenshaw-spec : {M : Type 1} → statement M
 clenshaw-spec =

@@ -12,6 +12,8 @@ use Rattle.numbers.proofs.InPlace.{change, change-start}
 use Rattle.chebyshev.proofs.clenshaw_ends.Statement.{statement}
 use Rattle.chebyshev.proofs.clenshaw_ends.Tie as tie
 
+-- `chebyshev::clenshaw_ends` meets its contract. Assumes nothing.
+
 abbrev Inv-loop : tie.InvT-loop
 Inv-loop x₀ a0 scale b1 b2 k₀ x k =
     (length x ≡ length x₀)

@@ -12,6 +12,8 @@ use Rattle.chebyshev.specs.Places.{pair, pairs, noPair, turn}
 use Rattle.chebyshev.proofs.clenshaw_row.Statement.{statement}
 use Rattle.chebyshev.proofs.clenshaw_row.Tie as tie
 
+-- `chebyshev::clenshaw_row` meets its contract. Assumes nothing.
+
 abbrev Inv-loop : tie.InvT-loop
 Inv-loop x ak b1₀ b2₀ k₀ b1 b2 k =
     (length b1 ≡ length x)

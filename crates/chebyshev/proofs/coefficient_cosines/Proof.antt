@@ -14,6 +14,8 @@ use Rattle.chebyshev.specs.Angles.{whole, coefficientAngle}
 use Rattle.chebyshev.proofs.coefficient_cosines.Statement.{statement}
 use Rattle.chebyshev.proofs.coefficient_cosines.Tie as tie
 
+-- `chebyshev::coefficient_cosines` meets its contract. Assumes nothing.
+
 abbrev Inv-loop : tie.InvT-loop
 Inv-loop x₀ n j₀ x j =
     (n ≡ whole (length x₀ - 1))

@@ -5,6 +5,8 @@ use Rattle.chebyshev.proofs.CoefficientLaws.{coefficients-filled, coeff
 use Rattle.chebyshev.proofs.coefficients_of.Statement.{statement}
 use Rattle.chebyshev.proofs.coefficients_of.Tie as tie
 
+-- `chebyshev::coefficients_of` meets its contract. Assumes nothing.
+
 halve-first-and-last-requires : tie.Need-halve-first-and-last-requires
 halve-first-and-last-requires c κs = search needs
 
@@ -37,9 +39,16 @@ same-length-3 c = search needs
 
 returns : tie.Need-returns
 returns c =
-    coefficients-filled (c .before .before .before .before .before .before .before .before .before .before .before .before .before .before .before .before .before .before .before .before .before .before .before .before .before .before .before .args .d .now) _ _ _ _ _ _ _ _ (c .before .before .before .before .before .before .before .before .before .before .before .before .before .before .before .before .before .before .before .before .before .before .before .before .before .before .before .pre .same) (c .before .before .before .before .before .before .before .before .before .before .before .before .before .before .before .before .before .before .before .before .before .before .halve-first-and-last .ensures)
-    (taken-is _ (c .before .before .before .before .before .before .before .before .before .before .before .before .before .before .before .before .before .before .coefficient-cosines .ensures) (c .before .before .before .before .before .before .before .before .before .before .before .before .before .before .enum-told .given .1))
-    (c .before .before .before .before .before .before .before .before .before .before .before .clenshaw .ensures) (c .before .before .before .before .before .before .before .halve-first-and-last2 .ensures) (c .before .before .needed-list .ensures)
+    let written = c .before .before in
+    let halved = written .before .before .before .before .before in
+    let sums = halved .before .before .before .before in
+    let told = sums .before .before .before in
+    let cosines = told .before .before .before .before in
+    let values = cosines .before .before .before .before in
+    let entry = values .before .before .before .before .before in
+    coefficients-filled (entry .args .d .now) _ _ _ _ _ _ _ _ (entry .pre .same) (values .halve-first-and-last .ensures)
+    (taken-is _ (cosines .coefficient-cosines .ensures) (told .enum-told .given .1))
+    (sums .clenshaw .ensures) (halved .halve-first-and-last2 .ensures) (written .needed-list .ensures)
 
 same-length-4 : tie.Need-same-length-4
 same-length-4 c = search needs
@@ -49,9 +58,11 @@ same-length-5 c = search needs
 
 returns-2 : tie.Need-returns-2
 returns-2 c =
+    let cosines = c .before .before .before .before .before in
+    let entry = cosines .before .before .before .before .before .before .before .before .before in
     fills-none
-    (coefficients-refused (c .before .before .before .before .before .before .before .before .before .before .before .before .before .before .args .d .now) _ _ _ (c .before .before .before .before .before .before .before .before .before .before .before .before .before .before .pre .same)
-    (taken-refused _ (c .before .before .before .before .before .coefficient-cosines .ensures) (c .before .r .given .1)))
+    (coefficients-refused (entry .args .d .now) _ _ _ (entry .pre .same)
+    (taken-refused _ (cosines .coefficient-cosines .ensures) (c .before .r .given .1)))
 
 pub coefficients-of-spec : {M : Type 1} → statement M
 coefficients-of-spec =

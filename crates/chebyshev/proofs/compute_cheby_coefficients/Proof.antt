@@ -11,6 +11,8 @@ use Rattle.chebyshev.proofs.CoefficientLaws.{coefficients-taken, coeffi
 use Rattle.chebyshev.proofs.compute_cheby_coefficients.Statement.{statement}
 use Rattle.chebyshev.proofs.compute_cheby_coefficients.Tie as tie
 
+-- `chebyshev::compute_cheby_coefficients` meets its contract. Assumes nothing.
+
 returns : tie.Need-returns
 unfolding coefficientsFor
 returns c = fills-none (rw (lt-leb _ _ (c .if1 .taken)))
@@ -60,14 +62,18 @@ same-length c = search needs
 
 returns-4 : tie.Need-returns-4
 returns-4 c =
-    coefficients-taken (c .before .before .before .before .before .before .before .before .before .before .before .before .before .before .before .before .before .before .args .p-values .now) (omega arith) (omega arith) _ _ _ _ (omega arith)
-    (filled-is (c .before .before .before .before .before .before .before .before .before .before .before .needed-list .ensures) _ refl (c .before .before .before .before .before .before .before .before .enum-told .given .1)) (c .before .before .before .before .coefficients-of .ensures)
+    let written = c .before .before .before .before in
+    let told = written .before .before .before .before in
+    let values = told .before .before .before in
+    coefficients-taken (values .before .before .before .before .before .before .before .args .p-values .now) (omega arith) (omega arith) _ _ _ _ (omega arith)
+    (filled-is (values .needed-list .ensures) _ refl (told .enum-told .given .1)) (written .coefficients-of .ensures)
 
 returns-5 : tie.Need-returns-5
 returns-5 c =
+    let values = c .before .before .before .before in
     fills-none
-    (coefficients-not-taken (c .before .before .before .before .before .before .before .before .before .before .before .args .p-values .now) (omega arith) (omega arith) _ _ (omega arith)
-    (filled-refused (c .before .before .before .before .needed-list .ensures) (c .before .r .given .1)))
+    (coefficients-not-taken (values .before .before .before .before .before .before .before .args .p-values .now) (omega arith) (omega arith) _ _ (omega arith)
+    (filled-refused (values .needed-list .ensures) (c .before .r .given .1)))
 
 pub compute-cheby-coefficients-spec : {M : Type 1} → statement M
 compute-cheby-coefficients-spec =
