@@ -11,4 +11,5 @@ pub mod Chains
 pub mod Unit
 pub mod Magnitudes
 pub mod FiniteLaws
+pub mod NotFinite
 pub mod WordLaws
