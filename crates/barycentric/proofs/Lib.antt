@@ -1,0 +1,4 @@
+pub mod LaneLaws
+pub mod Settle
+pub mod Shells
+pub mod Lengths

@@ -1,0 +1,83 @@
+-- `barycentric::delta::compute_lagrange_abscisa` meets its contract. Assumes nothing.
+use mathlib.Core.Path.{_≡_, sym, ap, _∙_}
+use native.Mathlib.Omega.{arith}
+use borrow.Author.Tests.{not-true, not-false}
+use borrow.Author.Needs.{needs}
+use lib.ListN.{length, length-append}
+use lib.Seq.{take-at, length-take-le}
+use Rattle.numbers.proofs.OutcomeLaws.{fills-none}
+use Rattle.barycentric.specs.Abscissas.{abscissasFor}
+use Rattle.barycentric.proofs.Lengths.{abscissas-length}
+use Rattle.barycentric.proofs.Shells.{abscissas-fit, answers}
+use Rattle.barycentric.proofs.delta.compute_lagrange_abscisa.Statement.{statement}
+use Rattle.barycentric.proofs.delta.compute_lagrange_abscisa.Tie as tie
+
+are-sized-for-abscissas-requires : tie.Need-are-sized-for-abscissas-requires
+are-sized-for-abscissas-requires c κs = search needs
+
+returns : tie.Need-returns
+unfolding abscissasFor
+returns c = fills-none (rw (sym (c .before .are-sized-for-abscissas .ensures) ∙ not-true _ (c .if1 .taken)))
+
+are-finite-requires : tie.Need-are-finite-requires
+are-finite-requires c κs = search needs
+
+returns-2 : tie.Need-returns-2
+unfolding abscissasFor
+returns-2 c =
+    fills-none
+    (rw (
+      sym (c .before .before .before .are-sized-for-abscissas .ensures) ∙ not-false _ (c .before .before .if1 .left),
+      sym (c .before .are-finite .ensures) ∙ not-true _ (c .if2 .taken),
+    ))
+
+array-borrow-prefix-y : tie.Need-array-borrow-prefix-y
+array-borrow-prefix-y c = abscissas-fit _ _ _ (sym (c .before .before .before .are-sized-for-abscissas .ensures) ∙ not-false _ (c .before .before .if1 .left)) .0 .most
+
+slice-aggregate-abscissas-into : tie.Need-slice-aggregate-abscissas-into
+slice-aggregate-abscissas-into c = sym (length-take-le _ _ (abscissas-fit _ _ _ (sym (c .before .before .before .before .are-sized-for-abscissas .ensures) ∙ not-false _ (c .before .before .before .if1 .left)) .0 .most))
+
+abscissas-into-requires : tie.Need-abscissas-into-requires
+abscissas-into-requires c κs =
+    let f = abscissas-fit _ _ _ (sym (c .before .before .before .before .are-sized-for-abscissas .ensures) ∙ not-false _ (c .before .before .before .if1 .left)) in (f .1, length-take-le _ _ (f .0 .most))
+
+array-share-prefix-y : tie.Need-array-share-prefix-y
+array-share-prefix-y c =
+    let k = ap length (c .before .abscissas-into .ensures) ∙ abscissas-length _ (c .before .before .before .before .before .before .before .before .before .before .args .desired .now) _ in rw length-append (omega (arith, k))
+
+slice-aggregate-needed-list : tie.Need-slice-aggregate-needed-list
+slice-aggregate-needed-list c =
+    let k = ap length (c .before .before .abscissas-into .ensures) ∙ abscissas-length _ (c .before .before .before .before .before .before .before .before .before .before .before .args .desired .now) _ in rw (take-at _ _ _ k) (sym k)
+
+needed-list-requires : tie.Need-needed-list-requires
+needed-list-requires c κs = search needs
+
+same-length : tie.Need-same-length
+same-length c = search needs
+
+returns-3 : tie.Need-returns-3
+unfolding abscissasFor
+returns-3 c =
+    let k = ap length (c .before .before .before .before .before .before .abscissas-into .ensures) ∙ abscissas-length _ (c .before .before .before .before .before .before .before .before .before .before .before .before .before .before .before .args .desired .now) _ in
+    answers (sym (c .before .before .before .before .before .before .before .before .before .before .before .are-sized-for-abscissas .ensures) ∙ not-false _ (c .before .before .before .before .before .before .before .before .before .before .if1 .left))
+    (sym (c .before .before .before .before .before .before .before .before .before .are-finite .ensures) ∙ not-false _ (c .before .before .before .before .before .before .before .before .if2 .left))
+    (c .before .before .before .before .before .before .abscissas-into .ensures)
+    k
+    (rw (take-at _ _ _ k) at (c .before .before .needed-list .ensures))
+
+pub compute-lagrange-abscisa-spec : {M : Type 1} → statement M
+compute-lagrange-abscisa-spec =
+    tie.close
+    (tie.spec
+    are-sized-for-abscissas-requires
+    returns
+    are-finite-requires
+    returns-2
+    array-borrow-prefix-y
+    slice-aggregate-abscissas-into
+    abscissas-into-requires
+    array-share-prefix-y
+    slice-aggregate-needed-list
+    needed-list-requires
+    same-length
+    returns-3)

@@ -1,0 +1,26 @@
+-- `barycentric::response::responses_into` meets its contract. Assumes nothing.
+use borrow.Author.Needs.{needs}
+use Rattle.barycentric.proofs.Settle.{responses-are}
+use Rattle.barycentric.proofs.response.responses_into.Statement.{statement}
+use Rattle.barycentric.proofs.response.responses_into.Tie as tie
+
+sums-into-requires : tie.Need-sums-into-requires
+sums-into-requires c κs = search needs
+
+quotients-requires : tie.Need-quotients-requires
+quotients-requires c κs =
+    let a = c .before .before .before .before .before .before .sums-into .ensures in
+    (c .before .before .before .before .before .before .before .before .before .before .before .before .before .before .before .pre .values, a .denoms, a .numers)
+
+same-length : tie.Need-same-length
+same-length c = search needs
+
+same-length-2 : tie.Need-same-length-2
+same-length-2 c = search needs
+
+returns : tie.Need-returns
+returns c = responses-are (c .before .before .before .before .before .before .before .before .before .sums-into .ensures) (c .before .before .quotients .ensures)
+
+pub responses-into-spec : {M : Type 1} → statement M
+responses-into-spec =
+    tie.close (tie.spec sums-into-requires quotients-requires same-length same-length-2 returns)
