@@ -2,21 +2,17 @@
 use Prim.Native.Nat.{ℕ, zero, suc, _+_, _<_, _≤_}
 use mathlib.Core.Path.{_≡_, refl, sym, ap, _∙_}
 use mathlib.Core.Bool.{Bool, true, false, cond}
-use mathlib.Core.List.{List, [], _∷_, append-nil}
+use mathlib.Core.List.{List, append-nil}
 use native.Mathlib.Nat.{not-suc-le-zero, le-of-suc-le-suc, zero-add}
 use native.Mathlib.Omega.{arith}
 use borrow.Author.Tests.{eqb-true, eqb-false, eq-eqb, ne-eqb}
 use lib.Dec.{eqb}
 use lib.ListN.{length, getD, set, length-set, drop-of-length-le, take, replicate, getD-replicate}
-use lib.Seq.{getD-set-same, getD-set-other, ext-getD, getD-take, length-take-le}
+use lib.Seq.{getD-set-same, getD-set-other, ext-getD, getD-take}
 use lib.Ieee.{Float, nan}
-use Rattle.numbers.specs.Floats.{zero64, one64}
-use Rattle.numbers.specs.Operations.{_⊘_}
 use Rattle.numbers.specs.Loops.{tab}
 use Rattle.numbers.proofs.LoopLaws.{Going, put, fill-start, length-tab}
-use Rattle.barycentric.specs.Limits.{mostPoints}
-use Rattle.barycentric.specs.Weights.{product, weight, weightsOf}
-use Rattle.barycentric.specs.Lanes.{Each, Products, Places}
+use Rattle.barycentric.specs.Lanes.{Each}
 
 -- a fact by two cases: i is k, or is not
 by-cases : {A : Type 0} (i k : ℕ) → (i ≡ k → A) → ((i ≡ k → ⊥) → A) → A
@@ -36,7 +32,8 @@ module _ {f : ℕ → Float → Float} where
   pub pass-start : {p : List Float} → Passing f p 0 p
   pass-start = record { same = refl; done = λ i h l. absurd (not-suc-le-zero h); left = λ i h. refl }
 
-  pub pass-next : {p₀ p : List Float} {k : ℕ} {v : Float} → Passing f p₀ k p → k < length p₀ → v ≡ f k (getD p k nan) → Passing f p₀ (k + 1) (set p k v)
+  pub pass-next : {p₀ p : List Float} {k : ℕ} {v : Float} → Passing f p₀ k p → k < length p₀ → v ≡ f k (getD p k nan)
+      → Passing f p₀ (k + 1) (set p k v)
   pass-next {p₀} {p} {k} {v} g h e =
       record {
         same = simp length-set (g .same);
@@ -52,7 +49,8 @@ module _ {f : ℕ → Float → Float} where
 
 -- ---- steps together
 -- the number at j put back as it was
-pub put-back : {f : ℕ → Float → Float} {p q : List Float} (j : ℕ) → Each f p q → j < length p → Each (λ k s. cond (eqb j k) s (f k s)) p (set q j (getD p j nan))
+pub put-back : {f : ℕ → Float → Float} {p q : List Float} (j : ℕ) → Each f p q → j < length p
+    → Each (λ k s. cond (eqb j k) s (f k s)) p (set q j (getD p j nan))
 put-back {f} {p} {q} j a h =
     record {
       same = simp length-set (a .same);
@@ -92,31 +90,3 @@ fill-whole g n o e =
 -- the front of an array of one number
 pub all-alike : (n m : ℕ) (v : Float) (k : ℕ) → k < n → n ≤ m → getD (take n (replicate m v)) k nan ≡ v
 all-alike n m v k h l = getD-take n (replicate m v) k nan h ∙ getD-replicate m k v nan (omega arith)
-
--- ---- the weights: products that begin with 1, each then to its reciprocal
-pub products-begin : (x : List Float) → 2 ≤ length x → length x ≤ mostPoints → Products x (take (length x) (replicate mostPoints one64))
-products-begin x l m =
-    record {
-      least = l;
-      most = m;
-      room = length-take-le (length x) (replicate mostPoints one64) m;
-      ones = λ k h. all-alike (length x) mostPoints one64 k h m;
-    }
-
-pub weights-are : (x : List Float) {p q r : List Float} → length p ≡ length x → Each (λ k s. product x k) p q → Each (λ k s. one64 ⊘ s) q r → r ≡ weightsOf x
-unfolding weightsOf
-weights-are x {p} {q} {r} e a b =
-    let c : Each (λ k s. weight x k) p r = each-then a b in
-    tab-is (weight x) (length x) r (c .same ∙ e) (λ k h. c .at k (omega arith))
-
--- ---- the sums of the places, to begin with 0
-pub places-begin : (places x w y : List Float) → length places ≤ mostPoints → length w ≡ length x → length y ≡ length x
-    → Places places x w y (take (length places) (replicate mostPoints zero64)) (take (length places) (replicate mostPoints zero64))
-places-begin places x w y m e f =
-    record {
-      weights = e;
-      values = f;
-      numers = length-take-le (length places) (replicate mostPoints zero64) m;
-      denoms = length-take-le (length places) (replicate mostPoints zero64) m;
-      zeros = λ k h. rw (all-alike (length places) mostPoints zero64 k h m);
-    }

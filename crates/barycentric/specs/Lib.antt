@@ -4,3 +4,4 @@ pub mod Delta
 pub mod Abscissas
 pub mod Response
 pub mod Lanes
+pub mod Cases

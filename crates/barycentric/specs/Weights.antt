@@ -1,7 +1,7 @@
 -- The barycentric weights of the points x (document 01, item 2): one over the product of the differences from the other points,
 -- each difference doubled, taken by a stride.
 use Prim.Native.Nat.{ℕ, _+_, _-_, _/_}
-use mathlib.Core.Bool.{Bool, _&&_, cond}
+use mathlib.Core.Bool.{_&&_, cond}
 use mathlib.Core.List.{List}
 use lib.Dec.{leb, eqb}
 use lib.ListN.{length, getD}

@@ -1,13 +1,12 @@
 -- What is not finite stays so: a sum or a product with it is not finite, a quotient of two such is a NaN. The difference of
 -- equal numbers is a zero, and nothing over it is finite. Assumes nothing.
 use Prim.Native.Nat.{ℕ, _+_, _-_, _*_, _<_}
-use mathlib.Core.Path.{_≡_, refl, sym, _∙_}
-use mathlib.Core.Bool.{Bool, true, false, not, _&&_, _||_, Bool·beq, cond}
-use native.Mathlib.Nat.{mul-pos, le-refl}
+use mathlib.Core.Path.{_≡_, refl, sym}
+use mathlib.Core.Bool.{Bool, true, false, not, _&&_, cond}
+use native.Mathlib.Nat.{mul-pos}
 use native.Mathlib.Omega.{arith}
 use borrow.Author.Tests.{eqb-true, le-ltb}
 use lib.Dec.{eqb, ltb}
-use lib.IntN.{pos}
 use lib.Ieee.{Float, Format, nan, inf, fin, add, sub, mul, div, neg, sum, round, eq, up, down, level, unlike}
 use lib.Ieee.Fits.{down-pos}
 use lib.Ieee.Scale.{finite}
@@ -17,46 +16,47 @@ use Rattle.numbers.proofs.Value.{round-zero}
 use Rattle.numbers.proofs.Zero.{add-comm, sub-self-nan}
 
 -- ---- sums, products and quotients
-pub add-left-wild : (f : Format) (x y : Float) → finite x ≡ false → finite (add f x y) ≡ false
+pub add-left-not-finite : (f : Format) (x y : Float) → finite x ≡ false → finite (add f x y) ≡ false
 unfolding add
-add-left-wild f nan y h = refl
-add-left-wild f (inf s) nan h = refl
-add-left-wild f (inf true) (inf true) h = refl
-add-left-wild f (inf true) (inf false) h = refl
-add-left-wild f (inf false) (inf true) h = refl
-add-left-wild f (inf false) (inf false) h = refl
-add-left-wild f (inf s) (fin t n d) h = refl
-add-left-wild f (fin s m e) y h = no (sym h)
+add-left-not-finite f nan y h = refl
+add-left-not-finite f (inf s) nan h = refl
+add-left-not-finite f (inf true) (inf true) h = refl
+add-left-not-finite f (inf true) (inf false) h = refl
+add-left-not-finite f (inf false) (inf true) h = refl
+add-left-not-finite f (inf false) (inf false) h = refl
+add-left-not-finite f (inf s) (fin t n d) h = refl
+add-left-not-finite f (fin s m e) y h = no (sym h)
 
-pub add-right-wild : (f : Format) (x y : Float) → finite y ≡ false → finite (add f x y) ≡ false
-add-right-wild f x y h = rw (add-comm f x y) (add-left-wild f y x h)
+pub add-right-not-finite : (f : Format) (x y : Float) → finite y ≡ false → finite (add f x y) ≡ false
+add-right-not-finite f x y h = rw (add-comm f x y) (add-left-not-finite f y x h)
 
-wild-pick : (b s : Bool) → finite (cond b nan (inf s)) ≡ false
-wild-pick true s = refl
-wild-pick false s = refl
+nan-or-infinite : (b s : Bool) → finite (cond b nan (inf s)) ≡ false
+nan-or-infinite true s = refl
+nan-or-infinite false s = refl
 
-pub mul-left-wild : (f : Format) (x y : Float) → finite x ≡ false → finite (mul f x y) ≡ false
+pub mul-left-not-finite : (f : Format) (x y : Float) → finite x ≡ false → finite (mul f x y) ≡ false
 unfolding mul
-mul-left-wild f nan y h = refl
-mul-left-wild f (inf s) nan h = refl
-mul-left-wild f (inf s) (inf t) h = refl
-mul-left-wild f (inf s) (fin t n d) h = wild-pick (eqb n 0) (unlike s t)
-mul-left-wild f (fin s m e) y h = no (sym h)
+mul-left-not-finite f nan y h = refl
+mul-left-not-finite f (inf s) nan h = refl
+mul-left-not-finite f (inf s) (inf t) h = refl
+mul-left-not-finite f (inf s) (fin t n d) h = nan-or-infinite (eqb n 0) (unlike s t)
+mul-left-not-finite f (fin s m e) y h = no (sym h)
 
-pub div-wild : (f : Format) (x y : Float) → finite x ≡ false → finite y ≡ false → div f x y ≡ nan
+pub div-not-finite : (f : Format) (x y : Float) → finite x ≡ false → finite y ≡ false → div f x y ≡ nan
 unfolding div
-div-wild f nan y h k = refl
-div-wild f (inf s) nan h k = refl
-div-wild f (inf s) (inf t) h k = refl
-div-wild f (inf s) (fin t n d) h k = no (sym k)
-div-wild f (fin s m e) y h k = no (sym h)
+div-not-finite f nan y h k = refl
+div-not-finite f (inf s) nan h k = refl
+div-not-finite f (inf s) (inf t) h k = refl
+div-not-finite f (inf s) (fin t n d) h k = no (sym k)
+div-not-finite f (fin s m e) y h k = no (sym h)
 
 -- ---- a difference of equal numbers
 zero-round : (f : Format) (s : Bool) (c : ℕ) → 0 < c → isZero (round f s 0 c) ≡ true
 zero-round f s c p = rw (round-zero f s c p)
 
 -- over plain numbers: a and b with like signs, and with unlike ones, where both are zeros
-like-signs : (f : Format) (s t : Bool) (a b c : ℕ) → 0 < c → eqb a b ≡ true → isZero (cond (ltb a b) (round f t (b - a) c) (round f (s && ltb b a) (a - b) c)) ≡ true
+like-signs : (f : Format) (s t : Bool) (a b c : ℕ) → 0 < c → eqb a b ≡ true
+    → isZero (cond (ltb a b) (round f t (b - a) c) (round f (s && ltb b a) (a - b) c)) ≡ true
 like-signs f s t a b c p h =
     let e : a ≡ b = eqb-true a b h in
     let z : a - b ≡ 0 = omega arith in
@@ -99,7 +99,7 @@ over-zero f (inf s) (inf t) h = refl
 over-zero f (inf s) (fin t n d) h = refl
 over-zero f (fin s m e) nan h = refl
 over-zero f (fin s m e) (inf t) h = no h
-over-zero f (fin s m e) (fin t n d) h = rw h (wild-pick (eqb m 0) (unlike s t))
+over-zero f (fin s m e) (fin t n d) h = rw h (nan-or-infinite (eqb m 0) (unlike s t))
 
 -- equal infinities too: their difference is a NaN
 pub over-difference : (f : Format) (w x y : Float) → eq x y ≡ true → finite (div f w (sub f x y)) ≡ false

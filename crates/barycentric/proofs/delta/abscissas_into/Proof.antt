@@ -1,6 +1,6 @@
 -- `barycentric::delta::abscissas_into` meets its contract. Assumes nothing.
 use Prim.Native.Nat.{_-_}
-use mathlib.Core.Path.{_≡_, refl}
+use mathlib.Core.Path.{_≡_}
 use borrow.Author.Needs.{needs}
 use lib.ListN.{length, length-set}
 use Rattle.numbers.proofs.LoopLaws.{Going, next, end, put}

@@ -1,5 +1,5 @@
 -- `barycentric::delta::compute_lagrange_abscisa` meets its contract. Assumes nothing.
-use mathlib.Core.Path.{_≡_, sym, ap, _∙_}
+use mathlib.Core.Path.{sym, ap, _∙_}
 use native.Mathlib.Omega.{arith}
 use borrow.Author.Tests.{not-true, not-false}
 use borrow.Author.Needs.{needs}
@@ -32,22 +32,31 @@ returns-2 c =
     ))
 
 array-borrow-prefix-y : tie.Need-array-borrow-prefix-y
-array-borrow-prefix-y c = abscissas-fit _ _ _ (sym (c .before .before .before .are-sized-for-abscissas .ensures) ∙ not-false _ (c .before .before .if1 .left)) .0 .most
+array-borrow-prefix-y c =
+    abscissas-fit _ _ _ (sym (c .before .before .before .are-sized-for-abscissas .ensures) ∙ not-false _ (c .before .before .if1 .left)) .0 .most
 
 slice-aggregate-abscissas-into : tie.Need-slice-aggregate-abscissas-into
-slice-aggregate-abscissas-into c = sym (length-take-le _ _ (abscissas-fit _ _ _ (sym (c .before .before .before .before .are-sized-for-abscissas .ensures) ∙ not-false _ (c .before .before .before .if1 .left)) .0 .most))
+slice-aggregate-abscissas-into c = sym (length-take-le _ _ (array-borrow-prefix-y (c .before)))
 
 abscissas-into-requires : tie.Need-abscissas-into-requires
 abscissas-into-requires c κs =
-    let f = abscissas-fit _ _ _ (sym (c .before .before .before .before .are-sized-for-abscissas .ensures) ∙ not-false _ (c .before .before .before .if1 .left)) in (f .1, length-take-le _ _ (f .0 .most))
+    let t = c .before in
+    let f = abscissas-fit _ _ _ (sym (t .before .before .before .are-sized-for-abscissas .ensures) ∙ not-false _ (t .before .before .if1 .left)) in
+    (f .1, length-take-le _ _ (f .0 .most))
 
 array-share-prefix-y : tie.Need-array-share-prefix-y
 array-share-prefix-y c =
-    let k = ap length (c .before .abscissas-into .ensures) ∙ abscissas-length _ (c .before .before .before .before .before .before .before .before .before .before .args .desired .now) _ in rw length-append (omega (arith, k))
+    let p = c .before in
+    let desired = p .before .before .before .before .before .before .before .before .before .args .desired .now in
+    let k = ap length (p .abscissas-into .ensures) ∙ abscissas-length _ desired _ in
+    rw length-append (omega (arith, k))
 
 slice-aggregate-needed-list : tie.Need-slice-aggregate-needed-list
 slice-aggregate-needed-list c =
-    let k = ap length (c .before .before .abscissas-into .ensures) ∙ abscissas-length _ (c .before .before .before .before .before .before .before .before .before .before .before .args .desired .now) _ in rw (take-at _ _ _ k) (sym k)
+    let p = c .before .before in
+    let desired = p .before .before .before .before .before .before .before .before .before .args .desired .now in
+    let k = ap length (p .abscissas-into .ensures) ∙ abscissas-length _ desired _ in
+    rw (take-at _ _ _ k) (sym k)
 
 needed-list-requires : tie.Need-needed-list-requires
 needed-list-requires c κs = search needs
@@ -58,10 +67,13 @@ same-length c = search needs
 returns-3 : tie.Need-returns-3
 unfolding abscissasFor
 returns-3 c =
-    let k = ap length (c .before .before .before .before .before .before .abscissas-into .ensures) ∙ abscissas-length _ (c .before .before .before .before .before .before .before .before .before .before .before .before .before .before .before .args .desired .now) _ in
-    answers (sym (c .before .before .before .before .before .before .before .before .before .before .before .are-sized-for-abscissas .ensures) ∙ not-false _ (c .before .before .before .before .before .before .before .before .before .before .if1 .left))
-    (sym (c .before .before .before .before .before .before .before .before .before .are-finite .ensures) ∙ not-false _ (c .before .before .before .before .before .before .before .before .if2 .left))
-    (c .before .before .before .before .before .before .abscissas-into .ensures)
+    let p = c .before .before .before .before .before .before in
+    let t = p .before .before in
+    let desired = t .before .before .before .before .before .before .before .args .desired .now in
+    let k = ap length (p .abscissas-into .ensures) ∙ abscissas-length _ desired _ in
+    answers (sym (t .before .before .before .are-sized-for-abscissas .ensures) ∙ not-false _ (t .before .before .if1 .left))
+    (sym (t .before .are-finite .ensures) ∙ not-false _ (t .if2 .left))
+    (p .abscissas-into .ensures)
     k
     (rw (take-at _ _ _ k) at (c .before .before .needed-list .ensures))
 

@@ -37,7 +37,8 @@ returns-3 c = rw (
 
 response-requires : tie.Need-response-requires
 response-requires c κs =
-    let a = three-alike-is _ _ _ (sym (c .before .before .before .before .before .three-alike .ensures) ∙ not-false _ (c .before .before .before .before .if1 .left)) in
+    let t = c .before .before .before .before in
+    let a = three-alike-is _ _ _ (sym (t .before .three-alike .ensures) ∙ not-false _ (t .if1 .left)) in
     (a .two .second, a .third)
 
 needed-requires : tie.Need-needed-requires
@@ -46,9 +47,10 @@ needed-requires c κs = search needs
 returns-4 : tie.Need-returns-4
 unfolding responseFor
 returns-4 c =
+    let t = c .before .before .before .before in
     rw (
-      sym (c .before .before .before .before .before .before .before .three-alike .ensures) ∙ not-false _ (c .before .before .before .before .before .before .if1 .left),
-      sym (c .before .before .before .before .before .is-finite .ensures) ∙ not-false _ (c .before .before .before .before .if2 .left),
+      sym (t .before .before .before .three-alike .ensures) ∙ not-false _ (t .before .before .if1 .left),
+      sym (t .before .is-finite .ensures) ∙ not-false _ (t .if2 .left),
       sym (c .before .before .before .three-finite .ensures) ∙ not-false _ (c .before .before .if3 .left),
       ← c .before .response .ensures,
     )

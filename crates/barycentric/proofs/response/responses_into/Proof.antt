@@ -1,6 +1,6 @@
 -- `barycentric::response::responses_into` meets its contract. Assumes nothing.
 use borrow.Author.Needs.{needs}
-use Rattle.barycentric.proofs.Settle.{responses-are}
+use Rattle.barycentric.proofs.ResponseLanes.{responses-are}
 use Rattle.barycentric.proofs.response.responses_into.Statement.{statement}
 use Rattle.barycentric.proofs.response.responses_into.Tie as tie
 
@@ -9,8 +9,9 @@ sums-into-requires c κs = search needs
 
 quotients-requires : tie.Need-quotients-requires
 quotients-requires c κs =
-    let a = c .before .before .before .before .before .before .sums-into .ensures in
-    (c .before .before .before .before .before .before .before .before .before .before .before .before .before .before .before .pre .values, a .denoms, a .numers)
+    let p = c .before .before .before .before .before .before in
+    let s = p .before .before .before .before .before .before .before .before .before in
+    (s .pre .values, p .sums-into .ensures .denoms, p .sums-into .ensures .numers)
 
 same-length : tie.Need-same-length
 same-length c = search needs
@@ -19,7 +20,9 @@ same-length-2 : tie.Need-same-length-2
 same-length-2 c = search needs
 
 returns : tie.Need-returns
-returns c = responses-are (c .before .before .before .before .before .before .before .before .before .sums-into .ensures) (c .before .before .quotients .ensures)
+returns c =
+    let p = c .before .before .before .before .before .before .before .before .before in
+    responses-are (p .sums-into .ensures) (c .before .before .quotients .ensures)
 
 pub responses-into-spec : {M : Type 1} → statement M
 responses-into-spec =

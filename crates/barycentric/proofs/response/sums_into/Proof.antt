@@ -54,14 +54,15 @@ loop-less c = search needs
 
 loop-again : tie.Need-loop-again Inv-loop μ-loop
 loop-again c =
-    let g = c .before .before .before .before .before .before .before .before .before .before .before .loop in
+    let t = c .before .before .before .before .before .before .before .before .before .before in
+    let g = t .before .loop in
     let a = c .before .before .before .before .add-row .ensures in (
       a .numers .same ∙ g .inv .0,
       a .denoms .same ∙ g .inv .1,
       λ k h.
           let n : k < length (g .numer) = omega (arith, h, g .inv .0) in
           let d : k < length (g .denom) = omega (arith, h, g .inv .1) in
-          next (g .inv .2 k h) (c .before .before .before .before .before .before .before .before .before .before .loop-test .taken) (rw (a .numers .at k n, a .denoms .at k d)),
+          next (g .inv .2 k h) (t .loop-test .taken) (rw (a .numers .at k n, a .denoms .at k d)),
     )
 
 same-length : tie.Need-same-length Inv-loop μ-loop
