@@ -1,9 +1,8 @@
 -- What each leaf gives, where it gives something: the numbers of its definition, every one finite. Assumes nothing.
 use Prim.Native.Nat.{ℕ, _≤_}
-use mathlib.Core.Path.{_≡_, refl}
-use mathlib.Core.Bool.{Bool, true, false, _&&_}
+use mathlib.Core.Path.{_≡_}
+use mathlib.Core.Bool.{Bool, true, _&&_}
 use mathlib.Core.List.{List}
-use native.Mathlib.Omega.{arith}
 use borrow.Author.Tests.{leb-true}
 use lib.Dec.{leb}
 use lib.ListN.{length}
@@ -12,23 +11,20 @@ use lib.Ieee.Scale.{finite}
 use Rattle.numbers.specs.Floats.{allFinite}
 use Rattle.numbers.specs.Outcome.{Outcome, gave, unless, neededOf, neededListOf}
 use Rattle.numbers.proofs.FiniteLaws.{given-finite}
+use Rattle.numbers.proofs.Given.{unless-given}
 use Rattle.barycentric.specs.Limits.{mostPoints, sized, alike, threeAlike, threeFinite}
 use Rattle.barycentric.specs.Weights.{weightsOf, weightsFor}
 use Rattle.barycentric.specs.Delta.{deltaOf, deltaFor}
 use Rattle.barycentric.specs.Abscissas.{abscissasOf, abscissasFor}
 use Rattle.barycentric.specs.Response.{responseOf, responseFor, responsesOf, responsesFor}
 
--- a test that was passed
-pub passed : {A : Type 0} (t : Bool) (n : ℕ) (o : Outcome A) (a : A) → unless t n o ≡ gave a → (t ≡ true) × (o ≡ gave a)
-passed true n o a e = (refl, e)
-passed false n o a e = absurd (let z : _≡_ {A = ℕ} 0 1 = cc in omega arith)
-
+-- two tests that were passed
 pub passed-both : {A : Type 0} (t u : Bool) (n m : ℕ) (o : Outcome A) (a : A) → unless t n (unless u m o) ≡ gave a
     → (t ≡ true) × (u ≡ true) × (o ≡ gave a)
 passed-both t u n m o a e =
-    let p = passed t n (unless u m o) a e in
-    let q = passed u m o a (p .1) in
-    (p .0, q .0, q .1)
+    let p = unless-given t n (unless u m o) e in
+    let q = unless-given u m o (p .rest) in
+    (p .test, q .test, q .rest)
 
 -- one number
 pub record Number (x y : Float) : Type 0 where
@@ -37,8 +33,8 @@ pub record Number (x y : Float) : Type 0 where
 
 pub number-given : (x y : Float) → neededOf x ≡ gave y → Number x y
 number-given x y e =
-    let p = passed (finite x) 9 (gave x) y e in
-    record { is = cc (p .1); finite-is = given-finite x y e }
+    let p = unless-given (finite x) 9 (gave x) e in
+    record { is = cc (p .rest); finite-is = given-finite x y e }
 
 -- a list
 pub record Numbers (l k : List Float) (room : ℕ) : Type 0 where

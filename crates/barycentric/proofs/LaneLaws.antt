@@ -1,9 +1,9 @@
 -- Loops over lanes: a loop that takes each number of a list through f, and what such steps make together. Assumes nothing.
-use Prim.Native.Nat.{ℕ, zero, suc, _+_, _<_, _≤_}
+use Prim.Native.Nat.{ℕ, _+_, _<_, _≤_}
 use mathlib.Core.Path.{_≡_, refl, sym, ap, _∙_}
 use mathlib.Core.Bool.{Bool, true, false, cond}
 use mathlib.Core.List.{List, append-nil}
-use native.Mathlib.Nat.{not-suc-le-zero, le-of-suc-le-suc, zero-add}
+use native.Mathlib.Nat.{not-suc-le-zero}
 use native.Mathlib.Omega.{arith}
 use borrow.Author.Tests.{eqb-true, eqb-false, eq-eqb, ne-eqb}
 use lib.Dec.{eqb}
@@ -12,6 +12,7 @@ use lib.Seq.{getD-set-same, getD-set-other, ext-getD, getD-take}
 use lib.Ieee.{Float, nan}
 use Rattle.numbers.specs.Loops.{tab}
 use Rattle.numbers.proofs.LoopLaws.{Going, put, fill-start, length-tab}
+use Rattle.numbers.proofs.Lanes.{tab-get}
 use Rattle.barycentric.specs.Lanes.{Each}
 
 -- a fact by two cases: i is k, or is not
@@ -66,20 +67,11 @@ each-then {f} {g} {p} {q} {r} a b =
     record { same = b .same ∙ a .same; at = λ k h. b .at k (omega (arith, a .same)) ∙ ap (g k) (a .at k h) }
 
 -- ---- the list of what each place has come to
-getD-tab-from : {A : Type 0} (g : ℕ → A) (d : A) (n i k : ℕ) → k < n → getD (tab g n i) k d ≡ g (i + k)
-unfolding tab
-getD-tab-from g d zero i k h = absurd (not-suc-le-zero h)
-getD-tab-from g d (suc n) i zero h = ap g (omega arith)
-getD-tab-from g d (suc n) i (suc k) h = getD-tab-from g d n (i + 1) k (le-of-suc-le-suc h) ∙ ap g (omega arith)
-
-pub getD-tab : {A : Type 0} (g : ℕ → A) (d : A) (n k : ℕ) → k < n → getD (tab g n 0) k d ≡ g k
-getD-tab g d n k h = getD-tab-from g d n 0 k h ∙ ap g (zero-add k)
-
 -- a list whose numbers are those of g is the list of g
 pub tab-is : (g : ℕ → Float) (n : ℕ) (l : List Float) → length l ≡ n → ((k : ℕ) → k < n → getD l k nan ≡ g k) → l ≡ tab g n 0
 tab-is g n l e a =
     ext-getD nan l (tab g n 0) (e ∙ sym (length-tab g n 0))
-    (λ k h. let m : k < n = omega arith in a k m ∙ sym (getD-tab g nan n k m))
+    (λ k h. let m : k < n = omega arith in a k m ∙ sym (tab-get g n k nan m))
 
 -- a loop that fills the whole of a list
 pub fill-whole : {A : Type 0} (g : ℕ → A) (n : ℕ) (o : List A) → length o ≡ n → Going (put g) n 0 o (tab g n 0)

@@ -12,15 +12,15 @@ use Rattle.numbers.specs.Floats.{allFinite}
 use Rattle.numbers.specs.Outcome.{gave}
 use Rattle.numbers.proofs.Order.{and-1, and-2}
 use Rattle.numbers.proofs.FiniteLaws.{finite-at}
+use Rattle.numbers.proofs.Lanes.{tab-get}
 use Rattle.barycentric.specs.Limits.{sized, threeAlike, threeFinite}
 use Rattle.barycentric.specs.Response.{responseOf, responseFor, responsesOf, responsesFor}
-use Rattle.barycentric.proofs.LaneLaws.{getD-tab}
 use Rattle.barycentric.proofs.Lengths.{responses-length}
 use Rattle.barycentric.proofs.Given.{responses-given}
 
 pub response-at : (places x w y : List Float) (i : ℕ) → i < length places → getD (responsesOf places x w y) i nan ≡ responseOf (getD places i nan) x w y
 unfolding responsesOf
-response-at places x w y i h = getD-tab (λ i. responseOf (getD places i nan) x w y) nan (length places) i h
+response-at places x w y i h = tab-get (λ i. responseOf (getD places i nan) x w y) (length places) i nan h
 
 pub single-form : (places x w y : List Float) (room : ℕ) (l : List Float) (i : ℕ) → responsesFor places x w y room ≡ gave l → i < length places
     → responseFor (getD places i nan) x w y ≡ gave (getD l i nan)

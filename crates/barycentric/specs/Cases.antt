@@ -1,23 +1,13 @@
--- Document 01's starred cases of these leaves, as pairs: what the definition gives, and what the document says.
-use mathlib.Core.Path.{_≡_}
+-- Document 01's starred cases of these leaves.
 use mathlib.Core.List.{List, [], _∷_}
 use lib.Ieee.{Float, binary64, ofBits, neg}
 use Rattle.numbers.specs.Floats.{zero64, one64}
+use Rattle.numbers.specs.Cases.{Case}
 use Rattle.numbers.specs.Outcome.{Outcome, gave}
 use Rattle.barycentric.specs.Weights.{weightsFor}
 use Rattle.barycentric.specs.Delta.{deltaFor}
 use Rattle.barycentric.specs.Abscissas.{abscissasFor}
 use Rattle.barycentric.specs.Response.{responseFor}
-
-pub record Case : Type 1 where
-  pub Answer : Type 0
-  pub gives : Answer
-  pub says : Answer
-
--- every pair of a list agrees
-pub data Agree : List Case → Type 1 where
-  none : Agree []
-  also : {c : Case} {cs : List Case} → c .gives ≡ c .says → Agree cs → Agree (c ∷ cs)
 
 abbrev half : Float
 half = ofBits binary64 0x3fe0_0000_0000_0000

@@ -1,2 +1,3 @@
 pub mod EdgeLaws
 pub mod TapLaws
+pub mod Starred

@@ -3,3 +3,4 @@ pub mod Realizable
 pub mod Edges
 pub mod Adjusted
 pub mod Taps
+pub mod Cases

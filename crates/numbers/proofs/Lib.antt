@@ -13,3 +13,4 @@ pub mod Magnitudes
 pub mod FiniteLaws
 pub mod NotFinite
 pub mod WordLaws
+pub mod CaseLaws

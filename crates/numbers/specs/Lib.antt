@@ -4,3 +4,4 @@ pub mod Words
 pub mod Loops
 pub mod Outcome
 pub mod Refusals
+pub mod Cases
