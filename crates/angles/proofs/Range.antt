@@ -5,9 +5,11 @@ use mathlib.Core.Bool.{Bool, true, false}
 use Prim.Native.Nat.{ℕ}
 use native.Mathlib.Omega.{arith}
 use lib.Ieee.{Float, le, lt, eq, neg, ofBits}
+use lib.Ieee.Scale.{finite}
 use Rattle.numbers.specs.Floats.{zero64, one64, clamp, Inside}
 use Rattle.numbers.specs.Outcome.{Outcome, refused, gave, unless}
 use Rattle.numbers.proofs.Order.{leq-trans}
+use Rattle.numbers.proofs.FiniteLaws.{inside-finite}
 use Rattle.numbers.proofs.Chains.{clamp-inside}
 use Rattle.angles.specs.Constants.{pi, widest}
 use Rattle.angles.specs.Turns.{taken, cosineAt, sineAt, cosineOf, sineOf}
@@ -33,6 +35,17 @@ pi-taken = refl
 pub cosine-range : (x y : Float) → cosineOf x ≡ gave y → Inside (neg one64) one64 y
 unfolding cosineOf
 cosine-range x y e = clamped-answer (taken x) (neg one64) one64 (cosineAt x) y unit-order e
+
+least-finite : finite (neg one64) ≡ true
+unfolding neg ofBits
+least-finite = refl
+
+most-finite : finite one64 ≡ true
+unfolding ofBits
+most-finite = refl
+
+pub cosine-finite : (x y : Float) → cosineOf x ≡ gave y → finite y ≡ true
+cosine-finite x y e = inside-finite (neg one64) one64 y least-finite most-finite (cosine-range x y e)
 
 pub sine-range : (x y : Float) → sineOf x ≡ gave y → Inside (neg one64) one64 y
 unfolding sineOf

@@ -2,3 +2,4 @@ pub mod Halves
 pub mod NodeLaws
 pub mod Sums
 pub mod CoefficientLaws
+pub mod Given

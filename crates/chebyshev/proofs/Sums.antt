@@ -9,14 +9,14 @@ use lib.Seq.{length-take-le, take-at, getD-take}
 use lib.Ieee.{Float, nan}
 use Rattle.numbers.specs.Floats.{zero64}
 use Rattle.numbers.specs.Operations.{_⊕_, _⊖_, _⊗_, _⊘_}
-use Rattle.numbers.specs.Loops.{run, tab}
+use Rattle.numbers.specs.Loops.{run}
 use Rattle.numbers.proofs.Lanes.{row, lanes, tab-same, tab-get}
 use Rattle.numbers.proofs.InPlace.{zip-length, zip-get}
 use Rattle.angles.specs.Constants.{two}
 use Rattle.chebyshev.specs.declared.Pair.{Pair}
 use Rattle.chebyshev.specs.Angles.{whole}
 use Rattle.chebyshev.specs.Coefficients.{clenshawStep, clenshaw}
-use Rattle.chebyshev.specs.Places.{pair, pairs, noPair, scaled}
+use Rattle.chebyshev.specs.Places.{pair, pairs, noPair, ended, scaled, summed}
 
 -- what each place starts with: two lists of which each repeats its number
 module _ (m : ℕ) (v w : Float) (h : m ≤ 64) where
@@ -46,17 +46,17 @@ module _ (a x b c : List Float) (n : Float) (p : length x ≤ 64) (hb : length b
   abbrev pub last : Float
   last = getD a (length a - 1) nan
 
-  abbrev pub turned : List Pair
-  turned = run (row laneTurn (length x) noPair) (length a - 2) 0 (started (length x) last zero64 p)
+  abbrev pub afterTurns : List Pair
+  afterTurns = run (row laneTurn (length x) noPair) (length a - 2) 0 (started (length x) last zero64 p)
 
-  place-ends : pairs b c ≡ turned → (k : ℕ) → k < length x → pair (getD b k nan) (getD c k nan) ≡ run (laneTurn k) (length a - 2) 0 (pair last zero64)
+  place-ends : pairs b c ≡ afterTurns → (k : ℕ) → k < length x → pair (getD b k nan) (getD c k nan) ≡ run (laneTurn k) (length a - 2) 0 (pair last zero64)
   place-ends e k q =
       sym (zip-get pair b c k nan nan noPair (omega arith) (omega arith))
       ∙ ap (λ l. getD l k noPair) (e ∙ lanes laneTurn (length x) noPair (length a - 2) 0 (started (length x) last zero64 p) (started-length (length x) last zero64 p))
       ∙ tab-get (λ k. run (laneTurn k) (length a - 2) 0 (getD (started (length x) last zero64 p) k noPair)) (length x) k noPair q
       ∙ ap (run (laneTurn k) (length a - 2) 0) (started-at (length x) last zero64 p k q)
 
-  pub places-end : pairs b c ≡ turned → n ≡ whole (length a - 1) → tab (λ k. ((getD x k nan ⊗ getD b k nan ⊖ getD c k nan) ⊕ getD a 0 nan) ⊗ (two ⊘ n)) (length x) 0 ≡ tab (λ k. scaled a (getD x k nan)) (length x) 0
+  pub places-end : pairs b c ≡ afterTurns → n ≡ whole (length a - 1) → ended x (getD a 0 nan) (two ⊘ n) b c ≡ summed a x
   unfolding clenshaw
   places-end e w =
       tab-same (λ k. ((getD x k nan ⊗ getD b k nan ⊖ getD c k nan) ⊕ getD a 0 nan) ⊗ (two ⊘ n)) (λ k. scaled a (getD x k nan)) (length x) 0

@@ -1,17 +1,14 @@
 // Chebyshev nodes and coefficients (chebyshev.rs of pm-remez).
 ghost use mathlib.Core.Path.{_≡_};
-ghost use Prim.Native.Nat.{_+_, _-_, _≤_};
-ghost use lib.ListN.{length, getD};
-ghost use lib.Ieee.{nan};
-ghost use Rattle.numbers.specs.Loops.{tab};
-ghost use Rattle.numbers.specs.Operations.{_⊖_, _⊕_, _⊗_};
+ghost use Prim.Native.Nat.{_+_, _≤_};
+ghost use lib.ListN.{length};
 ghost use Rattle.numbers.specs.Outcome.{gather};
 ghost use Rattle.numbers.specs.Refusals.{verdictOf, Filled};
 ghost use Rattle.angles.specs.Turns.{cosineOf};
-ghost use Rattle.chebyshev.specs.Angles.{nodeAngle, coefficientAngle};
+ghost use Rattle.chebyshev.specs.Angles.{nodeAngle};
 ghost use Rattle.chebyshev.specs.Nodes.{nodesFor};
 ghost use Rattle.chebyshev.specs.Coefficients.{halveEnds, coefficientsFor};
-ghost use Rattle.chebyshev.specs.Places.{turn, pairs, noPair, scaled, Placed, coefficientsOf};
+ghost use Rattle.chebyshev.specs.Places.{placesFor, pairs, turn, turned, ended, summed, Placed, coefficientsOf};
 use numbers::Refusal;
 use numbers::Scalar;
 use numbers::Verdict;
@@ -86,7 +83,7 @@ fn halve_first_and_last(a: &mut [f64])
 
 fn coefficient_cosines(x: &mut [f64]) -> Verdict
     requires { ⌜ (2 ≤ length (now x)) × (length (now x) ≤ 64) ⌝ }
-    ensures { λ r. ⌜ verdictOf r (now (x .exit)) ≡ gather (λ j. cosineOf (coefficientAngle (length (now (x .entry)) - 1) j)) (length (now (x .entry))) 0 ⌝ }
+    ensures { λ r. ⌜ verdictOf r (now (x .exit)) ≡ placesFor (length (now (x .entry))) ⌝ }
 {
     let n = numbers::whole((x.len() - 1) as u32);
     let mut j: usize = 0;
@@ -116,7 +113,7 @@ fn clenshaw_step(x: f64, ak: f64, s: Pair) -> Pair
 // One of Clenshaw's turns at every place.
 fn clenshaw_row(x: &[f64], ak: f64, b1: &mut [f64], b2: &mut [f64])
     requires { ⌜ (length (now b1) ≡ length (now x)) × (length (now b2) ≡ length (now x)) ⌝ }
-    ensures { λ _. ⌜ pairs (now (b1 .exit)) (now (b2 .exit)) ≡ tab (λ k. turn (getD (now (x .entry)) k nan) ak (getD (pairs (now (b1 .entry)) (now (b2 .entry))) k noPair)) (length (now (x .entry))) 0 ⌝ }
+    ensures { λ _. ⌜ pairs (now (b1 .exit)) (now (b2 .exit)) ≡ turned (now (x .entry)) ak (pairs (now (b1 .entry)) (now (b2 .entry))) ⌝ }
 {
     let mut k = 0;
     while k < x.len() {
@@ -137,7 +134,7 @@ fn clenshaw_row(x: &[f64], ak: f64, b1: &mut [f64], b2: &mut [f64])
 // What each place ends with, in its stead: Clenshaw's sum times the scale.
 fn clenshaw_ends(x: &mut [f64], a0: f64, scale: f64, b1: &[f64], b2: &[f64])
     requires { ⌜ (length (now b1) ≡ length (now x)) × (length (now b2) ≡ length (now x)) ⌝ }
-    ensures { λ _. ⌜ now (x .exit) ≡ tab (λ k. ((getD (now (x .entry)) k nan ⊗ getD (now (b1 .entry)) k nan ⊖ getD (now (b2 .entry)) k nan) ⊕ a0) ⊗ scale) (length (now (x .entry))) 0 ⌝ }
+    ensures { λ _. ⌜ now (x .exit) ≡ ended (now (x .entry)) a0 scale (now (b1 .entry)) (now (b2 .entry)) ⌝ }
 {
     let mut k = 0;
     while k < x.len() {
@@ -149,7 +146,7 @@ fn clenshaw_ends(x: &mut [f64], a0: f64, scale: f64, b1: &[f64], b2: &[f64])
 // Clenshaw's sums of a, scaled, at every place x, side by side and in its stead.
 fn clenshaw(a: &[f64], x: &mut [f64])
     requires { ⌜ Placed (now a) (now x) ⌝ }
-    ensures { λ _. ⌜ now (x .exit) ≡ tab (λ j. scaled (now (a .entry)) (getD (now (x .entry)) j nan)) (length (now (x .entry))) 0 ⌝ }
+    ensures { λ _. ⌜ now (x .exit) ≡ summed (now (a .entry)) (now (x .entry)) ⌝ }
 {
     let n = a.len();
     let m = x.len();

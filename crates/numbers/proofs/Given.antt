@@ -89,7 +89,9 @@ gather-finite g f (suc n) i l e =
     let t = turn (g i) (gather g n (i + 1)) l e in
     rw (← t .both, f i (t .head) (t .given)) (gather-finite g f n (i + 1) (t .tail) (t .rest))
 
-both-map : {A B : Type 0} (h : A → B) (o : Outcome A) (q : Outcome (List A)) → bind (bind o (λ x. gave (h x))) (λ a. bind (bind q (λ l. gave (map h l))) (λ l. gave (a ∷ l))) ≡ bind (bind o (λ a. bind q (λ l. gave (a ∷ l)))) (λ l. gave (map h l))
+both-map :
+    {A B : Type 0} (h : A → B) (o : Outcome A) (q : Outcome (List A))
+    → bind (bind o (λ x. gave (h x))) (λ a. bind (bind q (λ l. gave (map h l))) (λ l. gave (a ∷ l))) ≡ bind (bind o (λ a. bind q (λ l. gave (a ∷ l)))) (λ l. gave (map h l))
 both-map h (refused n) q = refl
 both-map h (gave a) (refused n) = refl
 both-map h (gave a) (gave l) = refl

@@ -11,8 +11,6 @@ use Rattle.chebyshev.proofs.NodeLaws.{cosines-length, nodes-filled, nod
 use Rattle.chebyshev.proofs.chebyshev_nodes.Statement.{statement}
 use Rattle.chebyshev.proofs.chebyshev_nodes.Tie as tie
 
--- `chebyshev::chebyshev_nodes` meets its contract. Assumes nothing.
-
 returns : tie.Need-returns
 unfolding nodesFor
 returns c = fills-none (rw (le-ltb _ _ (c .if1 .taken)))

@@ -15,8 +15,6 @@ use Rattle.chebyshev.proofs.Sums.{turn-back, places-end}
 use Rattle.chebyshev.proofs.clenshaw.Statement.{statement}
 use Rattle.chebyshev.proofs.clenshaw.Tie as tie
 
--- `chebyshev::clenshaw` meets its contract. Assumes nothing.
-
 abbrev Inv-loop : tie.InvT-loop
 Inv-loop a x n m b1₀ b2₀ t₀ b1 b2 t =
     (length b1 ≡ 64)

@@ -5,20 +5,18 @@ use native.Mathlib.Omega.{arith}
 use borrow.Author.Needs.{needs}
 use lib.ListN.{length, getD, length-set}
 use lib.Ieee.{nan}
-use Rattle.numbers.specs.Loops.{tab}
 use Rattle.numbers.specs.Operations.{_⊕_, _⊖_, _⊗_}
 use Rattle.numbers.proofs.LoopLaws.{Going, next, end}
 use Rattle.numbers.proofs.InPlace.{change, change-start}
+use Rattle.chebyshev.specs.Places.{ended}
 use Rattle.chebyshev.proofs.clenshaw_ends.Statement.{statement}
 use Rattle.chebyshev.proofs.clenshaw_ends.Tie as tie
-
--- `chebyshev::clenshaw_ends` meets its contract. Assumes nothing.
 
 abbrev Inv-loop : tie.InvT-loop
 Inv-loop x₀ a0 scale b1 b2 k₀ x k =
     (length x ≡ length x₀)
     × Going (change (λ k u. ((u ⊗ getD b1 k nan ⊖ getD b2 k nan) ⊕ a0) ⊗ scale) nan) (length x₀) k x
-    (tab (λ k. ((getD x₀ k nan ⊗ getD b1 k nan ⊖ getD b2 k nan) ⊕ a0) ⊗ scale) (length x₀) 0)
+    (ended x₀ a0 scale b1 b2)
 
 abbrev μ-loop : tie.MeasureT-loop
 μ-loop x₀ a0 scale b1 b2 k₀ x k = length x₀ - k

@@ -5,21 +5,18 @@ use native.Mathlib.Omega.{arith}
 use borrow.Author.Needs.{needs}
 use lib.ListN.{set, length, getD, length-set}
 use lib.Ieee.{nan}
-use Rattle.numbers.specs.Loops.{tab}
 use Rattle.numbers.proofs.LoopLaws.{Going, next, end}
 use Rattle.numbers.proofs.InPlace.{change, change-start, zip-length, zip-get, zip-set}
-use Rattle.chebyshev.specs.Places.{pair, pairs, noPair, turn}
+use Rattle.chebyshev.specs.Places.{pair, pairs, noPair, turn, turned}
 use Rattle.chebyshev.proofs.clenshaw_row.Statement.{statement}
 use Rattle.chebyshev.proofs.clenshaw_row.Tie as tie
-
--- `chebyshev::clenshaw_row` meets its contract. Assumes nothing.
 
 abbrev Inv-loop : tie.InvT-loop
 Inv-loop x ak b1₀ b2₀ k₀ b1 b2 k =
     (length b1 ≡ length x)
     × (length b2 ≡ length x)
     × Going (change (λ k. turn (getD x k nan) ak) noPair) (length x) k (pairs b1 b2)
-    (tab (λ k. turn (getD x k nan) ak (getD (pairs b1₀ b2₀) k noPair)) (length x) 0)
+    (turned x ak (pairs b1₀ b2₀))
 
 abbrev μ-loop : tie.MeasureT-loop
 μ-loop x ak b1₀ b2₀ k₀ b1 b2 k = length x - k

@@ -5,22 +5,21 @@ use native.Mathlib.Omega.{arith}
 use borrow.Author.Needs.{needs}
 use lib.ListN.{length, length-set}
 use lib.Seq.{take-all}
-use Rattle.numbers.specs.Outcome.{gave, gather}
+use Rattle.numbers.specs.Outcome.{gave}
 use Rattle.numbers.specs.Operations.{_⊗_, _⊘_}
 use Rattle.numbers.proofs.OutcomeLaws.{Gathering, gather-start, gather-next, gather-stop, gather-end, value-is, value-refused}
 use Rattle.angles.specs.Constants.{pi}
 use Rattle.angles.specs.Turns.{cosineOf}
 use Rattle.chebyshev.specs.Angles.{whole, coefficientAngle}
+use Rattle.chebyshev.specs.Places.{placesFor}
 use Rattle.chebyshev.proofs.coefficient_cosines.Statement.{statement}
 use Rattle.chebyshev.proofs.coefficient_cosines.Tie as tie
-
--- `chebyshev::coefficient_cosines` meets its contract. Assumes nothing.
 
 abbrev Inv-loop : tie.InvT-loop
 Inv-loop x₀ n j₀ x j =
     (n ≡ whole (length x₀ - 1))
     × (length x ≡ length x₀)
-    × Gathering (λ j. cosineOf (coefficientAngle (length x₀ - 1) j)) (length x₀) j x (gather (λ j. cosineOf (coefficientAngle (length x₀ - 1) j)) (length x₀) 0)
+    × Gathering (λ j. cosineOf (coefficientAngle (length x₀ - 1) j)) (length x₀) j x (placesFor (length x₀))
 
 abbrev μ-loop : tie.MeasureT-loop
 μ-loop x₀ n j₀ x j = length x₀ - j

@@ -5,8 +5,6 @@ use Rattle.chebyshev.proofs.CoefficientLaws.{coefficients-filled, coeff
 use Rattle.chebyshev.proofs.coefficients_of.Statement.{statement}
 use Rattle.chebyshev.proofs.coefficients_of.Tie as tie
 
--- `chebyshev::coefficients_of` meets its contract. Assumes nothing.
-
 halve-first-and-last-requires : tie.Need-halve-first-and-last-requires
 halve-first-and-last-requires c κs = search needs
 

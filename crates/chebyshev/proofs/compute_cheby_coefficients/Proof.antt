@@ -11,8 +11,6 @@ use Rattle.chebyshev.proofs.CoefficientLaws.{coefficients-taken, coeffi
 use Rattle.chebyshev.proofs.compute_cheby_coefficients.Statement.{statement}
 use Rattle.chebyshev.proofs.compute_cheby_coefficients.Tie as tie
 
--- `chebyshev::compute_cheby_coefficients` meets its contract. Assumes nothing.
-
 returns : tie.Need-returns
 unfolding coefficientsFor
 returns c = fills-none (rw (lt-leb _ _ (c .if1 .taken)))

@@ -6,8 +6,6 @@ use Rattle.chebyshev.proofs.Halves.{halved}
 use Rattle.chebyshev.proofs.halve_first_and_last.Statement.{statement}
 use Rattle.chebyshev.proofs.halve_first_and_last.Tie as tie
 
--- `chebyshev::halve_first_and_last` meets its contract. Assumes nothing.
-
 sub-last : tie.Need-sub-last
 sub-last c = search needs
 

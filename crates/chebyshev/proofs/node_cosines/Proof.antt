@@ -14,8 +14,6 @@ use Rattle.chebyshev.specs.Angles.{whole, nodeAngle}
 use Rattle.chebyshev.proofs.node_cosines.Statement.{statement}
 use Rattle.chebyshev.proofs.node_cosines.Tie as tie
 
--- `chebyshev::node_cosines` meets its contract. Assumes nothing.
-
 abbrev Inv-loop : tie.InvT-loop
 Inv-loop n x₀ scale j₀ x j =
     (scale ≡ pi ⊘ whole n)
