@@ -4,7 +4,7 @@ use mathlib.Core.Path.{_≡_, refl, sym, ap, _∙_}
 use mathlib.Core.Bool.{Bool, true, false, cond}
 use mathlib.Core.List.{List, [], _∷_, _++_, append-assoc, append-nil}
 use native.Mathlib.Omega.{arith}
-use lib.ListN.{length, set, replicate, length-append}
+use lib.ListN.{length, set, length-append}
 use borrow.Author.Tests.{lt-ltb, le-ltb}
 use lib.Dec.{ltb}
 use lib.Ieee.{lt}
@@ -14,24 +14,13 @@ use Rattle.numbers.specs.declared.Refusal.{Refusal}
 use Rattle.numbers.specs.declared.Verdict.the-variants as verdict
 use Rattle.numbers.specs.Floats.{zero64}
 use Rattle.numbers.specs.Loops.{run}
+use Rattle.numbers.proofs.Fronts.{padded-more, length-more}
 use Rattle.fir_types.specs.declared.edges.Interval.{Interval}
 use Rattle.fir_types.specs.declared.edges.Edges.{Edges}
 use Rattle.fir_types.specs.Edges.{interval, packed, answerOf, Edged, keep, kept}
 
--- an entry set behind the front of a list
-set-behind : {A : Type 0} (l : List A) (k : ℕ) (z m : A) → set (l ++ replicate (suc k) z) (length l) m ≡ (l ++ (m ∷ [])) ++ replicate k z
-set-behind [] k z m = refl
-set-behind (x ∷ l) k z m = ap (λ r. x ∷ r) (set-behind l k z m)
-
 packed-more : (l : List Interval) (m : Interval) → length l < 8 → record { list = set (packed l .list) (length l) m; count = length l + 1 } ≡ packed (l ++ (m ∷ []))
-packed-more l m h =
-    let a : length (l ++ (m ∷ [])) ≡ length l + 1 = length-append l (m ∷ []) in
-    let k : 8 - length l ≡ suc (8 - (length l + 1)) = omega arith in
-    let z = interval zero64 zero64 in
-    (λ i. record {
-      list = (ap (λ n. set (l ++ replicate n z) (length l) m) k ∙ set-behind l (8 - (length l + 1)) z m ∙ ap (λ n. (l ++ (m ∷ [])) ++ replicate (8 - n) z) (sym a)) i;
-      count = sym a i;
-    })
+packed-more l m h = (λ i. record { list = padded-more 8 (interval zero64 zero64) l m h i; count = sym (length-more l m) i })
 
 -- n more intervals from i on
 pub keeping : (g : ℕ → Interval) (n i : ℕ) (l : List Interval) → length l + n ≤ 8 → run (λ i. keep (g i)) n i (packed l) ≡ packed (l ++ kept g n i)

@@ -18,7 +18,7 @@ use Rattle.numbers.specs.declared.Verdict.the-variants as verdict
 use Rattle.numbers.specs.declared.Count.{Count}
 use Rattle.numbers.specs.declared.Count.the-variants as count
 use Rattle.numbers.specs.Outcome.{Outcome, refused, gave, bind, sweep, gather}
-use Rattle.numbers.specs.Refusals.{refusalNumber, scalarOf, verdictOf, countOf, few, Filled, Wrote}
+use Rattle.numbers.specs.Refusals.{refusalNumber, scalarOf, verdictOf, countOf, few, Filled, Wrote, Answers}
 
 -- ---- a return: what was given so far, and what follows; or the refusal
 pub bind-next : {A B : Type 0} {a : A} {o : Outcome A} {z : Outcome B} (k : A → Outcome B) → gave a ≡ o → z ≡ k a → z ≡ bind o k
@@ -52,6 +52,13 @@ writes {A} {o} {n} {w} {w'} l e h k =
 -- the count of what is written, worked out
 pub filled-count : {A : Type 0} {o : Outcome (List A)} {m n : ℕ} {r : Verdict} {w w' : List A} → m ≡ n → Filled o m r w w' → Filled o n r w w'
 filled-count e f = rw e at f
+
+-- ---- what a leaf that answers a verdict beside a value returns
+pub answers-none : {A : Type 0} {none : A} {o : Outcome A} {q : Refusal} → refused (refusalNumber q) ≡ o → Answers none o (verdict.Refused q) none
+answers-none e = record { is = e; value = rw (← e) }
+
+pub answers : {A : Type 0} {none a : A} {o : Outcome A} → gave a ≡ o → Answers none o verdict.Taken a
+answers e = record { is = e; value = rw (← e) }
 
 -- ---- an answer's case, as a match finds it
 module _ {o : Outcome Float} {r : Scalar} (a : scalarOf r ≡ o) where

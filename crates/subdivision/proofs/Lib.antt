@@ -1,0 +1,3 @@
+pub mod WalkLaws
+pub mod CutLaws
+pub mod Cases
