@@ -17,7 +17,7 @@ use Rattle.fir_types.specs.declared.edges.Edges.{Edges}
 use Rattle.fir_types.specs.Edges.{interval}
 use Rattle.subdivision.specs.declared.first.Walk.{Walk}
 
--- as many bands as are there, and no more than fit
+-- the band i, in rising order
 abbrev pub bandOf : Edges → ℕ → Interval
 bandOf e i = getD (e .list) i (interval nan nan)
 
@@ -36,7 +36,7 @@ walked e s (suc k) w =
     let next = walked e s k (record { band = w .band + 1; consumed = w .consumed ⊕ l }) in
     cond (le (s ⊖ w .consumed) l || eqb (w .band) (e .count - 1)) w next
 
--- the point that lies s along the bands
+-- the point that lies s along the bands, clamped to the band's end; one that is no number gives the end, as the minimum of the Rust does
 abbrev pub pointAt : Edges → Float → Walk → Float
 pointAt e s w = let b = bandOf e (w .band) in lesser (b .end) (b .begin ⊕ (s ⊖ w .consumed))
 
