@@ -1,8 +1,7 @@
 -- Document 01's starred case of the subdivision holds, computed; a list, so that it joins those of the other leaves. Assumes nothing.
 use mathlib.Core.Path.{refl}
 use mathlib.Core.List.{List, [], _∷_}
-use lib.ListN.{replicate}
-use lib.Ieee.{Float, binary64, ofBits, neg, lt, eq}
+use lib.Ieee.{ofBits, neg, lt, eq}
 use Rattle.numbers.specs.Cases.{Case, Agree, none, also}
 use Rattle.numbers.specs.Floats.{one64, allFinite}
 use Rattle.numbers.specs.Loops.{tab, until}

@@ -1,32 +1,30 @@
--- Subdivision as loops: what a band's cut leaves and makes, intervals put one behind the other, and the bound on how many there
--- are. Assumes nothing.
+-- Subdivision as loops: a band cut point by point, band after band, and the intervals put one behind the other. Assumes nothing.
 use Prim.Native.Nat.{ℕ, zero, suc, _+_, _-_, _<_, _≤_}
 use mathlib.Core.Path.{_≡_, refl, sym, ap, _∙_}
-use mathlib.Core.Bool.{Bool, true, false, _&&_, cond}
+use mathlib.Core.Bool.{true, false}
 use mathlib.Core.List.{List, [], _∷_, _++_, append-assoc, append-nil}
 use native.Mathlib.Omega.{arith}
-use lib.Dec.{leb}
-use lib.ListN.{length, getD, take, drop, length-append, length-take, drop-of-length-le}
-use lib.Seq.{drop-cons, getD-take}
 use native.Mathlib.Numerals.{add-one}
-use borrow.Author.Tests.{not-true, not-false, leb-true}
+use borrow.Author.Tests.{not-true, not-false}
+use lib.ListN.{length, getD, take, drop, length-take, drop-of-length-le}
+use lib.Seq.{drop-cons, getD-take}
 use lib.Ieee.{Float, nan, lt, eq, ne}
 use Rattle.numbers.specs.Floats.{zero64}
 use Rattle.numbers.specs.Loops.{tab}
 use Rattle.numbers.proofs.LoopLaws.{length-tab}
 use Rattle.numbers.proofs.Fronts.{padded-more, length-more}
-use Rattle.numbers.proofs.Order.{and-1, and-2}
 use Rattle.fir_types.specs.declared.edges.Interval.{Interval}
 use Rattle.fir_types.specs.declared.edges.Edges.{Edges}
 use Rattle.fir_types.specs.Edges.{interval}
 use Rattle.subdivision.specs.declared.cuts.Intervals.{Intervals}
 use Rattle.subdivision.specs.declared.cuts.Cutting.{Cutting}
 use Rattle.subdivision.specs.First.{bandOf}
-use Rattle.subdivision.specs.Subdivide.{Cut, with, cutBand, cutBands, risingLast, rising, subdivided, packed, push, pushAll, cutFrom, subdivideSized}
+use Rattle.subdivision.specs.Subdivide.{Cut, cutBand, cutBands, fromBack, risingLast, rising, subdivided, packed, push, pushAll, cutFrom}
+use Rattle.subdivision.proofs.Bound.{cut-step, cut-count, cut-some, most-intervals}
 
 -- ---- the points from the back of the list
 length-rising : (x : List Float) (k : ℕ) → length (risingLast x k) ≡ k
-length-rising x k = length-tab (λ i. getD x (length x - 1 - i) nan) k (length x - k)
+length-rising x k = length-tab (fromBack x) k (length x - k)
 
 rising-none : (x : List Float) → risingLast x 0 ≡ []
 unfolding tab
@@ -39,77 +37,18 @@ rising-next x k h =
     let b : length x - suc k + 1 ≡ length x - k = omega arith in
     rw (a, b)
 
--- ---- a band makes at most one interval more than the points it consumes
-pub cut-count : (begin end : Float) (l : List Float) → length (cutBand begin end l .made) + length (cutBand begin end l .left) ≤ length l + 1
-unfolding cutBand
-cut-count begin end [] = omega arith
-cut-count begin end (a ∷ l) = go (lt end a) (eq a end) (eq begin a) (cut-count begin end l) (cut-count a end l)
-  where
-    few : ℕ → Cut → Type 0
-    few n c = length (c .made) + length (c .left) ≤ n + 1
-
-    go : (t u v : Bool) → few (length l) (cutBand begin end l) → few (length l) (cutBand a end l)
-        → few (suc (length l))
-        (cond t (record { made = interval begin end ∷ []; left = a ∷ l })
-        (cond u (record { made = interval begin end ∷ []; left = l }) (cond v (cutBand begin end l) (with (interval begin a) (cutBand a end l)))))
-    go true u v p q = omega arith
-    go false true v p q = omega arith
-    go false false true p q = omega arith
-    go false false false p q = omega arith
-
--- and at least one
-pub cut-some : (begin end : Float) (l : List Float) → 0 < length (cutBand begin end l .made)
-unfolding cutBand
-cut-some begin end [] = omega arith
-cut-some begin end (a ∷ l) = go (lt end a) (eq a end) (eq begin a) (cut-some begin end l)
-  where
-    go : (t u v : Bool) → 0 < length (cutBand begin end l .made)
-        → 0
-        < length
-        (cond t (record { made = interval begin end ∷ []; left = a ∷ l })
-        (cond u (record { made = interval begin end ∷ []; left = l }) (cond v (cutBand begin end l) (with (interval begin a) (cutBand a end l)))) .made)
-    go true u v p = omega arith
-    go false true v p = omega arith
-    go false false true p = p
-    go false false false p = omega arith
-
--- and leaves the last of the points
-pub cut-left : (x : List Float) (begin end : Float) (k : ℕ) → k ≤ length x → cutBand begin end (risingLast x k) .left ≡ risingLast x (length (cutBand begin end (risingLast x k) .left))
+-- ---- a band's cut leaves the last of the points
+cut-left : (x : List Float) (begin end : Float) (k : ℕ) → k ≤ length x → cutBand begin end (risingLast x k) .left ≡ risingLast x (length (cutBand begin end (risingLast x k) .left))
 unfolding cutBand
 cut-left x begin end zero h = rw (rising-none x) (sym (rising-none x))
 cut-left x begin end (suc k) h =
-    rw (rising-next x k h) (go (lt end a) (eq a end) (eq begin a) (cut-left x begin end k (omega arith)) (cut-left x a end k (omega arith)))
-  where
-    a : Float
-    a = getD x k nan
-
-    l : List Float
-    l = risingLast x k
-
-    last : Cut → Type 0
-    last c = c .left ≡ risingLast x (length (c .left))
-
-    go : (t u v : Bool) → last (cutBand begin end l) → last (cutBand a end l)
-        → last
-        (cond t (record { made = interval begin end ∷ []; left = a ∷ l })
-        (cond u (record { made = interval begin end ∷ []; left = l }) (cond v (cutBand begin end l) (with (interval begin a) (cutBand a end l)))))
-    go true u v p q = sym (rising-next x k h) ∙ ap (λ n. risingLast x (suc n)) (sym (length-rising x k))
-    go false true v p q = ap (risingLast x) (sym (length-rising x k))
-    go false false true p q = p
-    go false false false p q = q
-
--- ---- subintervals at most points + bands
-pub cuts-count : (bs : List Interval) (l : List Float) → length (cutBands bs l) ≤ length l + length bs
-unfolding cutBands
-cuts-count [] l = omega arith
-cuts-count (b ∷ bs) l =
-    let c = cutBand (b .begin) (b .end) l in
-    omega (arith, length-append (c .made) (cutBands bs (c .left)), cut-count (b .begin) (b .end) l, cuts-count bs (c .left))
-
-pub most-intervals : (x : List Float) (e : Edges) → length (subdivided x e) ≤ length x + e .count
-unfolding subdivided
-most-intervals x e =
-    omega (arith, cuts-count (take (e .count) (e .list)) (rising x), length-tab (λ i. getD x (length x - 1 - i) nan) (length x) 0, length-take (e .count) (e .list))
+    let n = sym (length-rising x k) in
+    rw (rising-next x k h)
+    (cut-step (λ c. c .left ≡ risingLast x (length (c .left))) begin end (getD x k nan) (risingLast x k)
+    (sym (rising-next x k h) ∙ ap (λ n. risingLast x (suc n)) n)
+    (ap (risingLast x) n)
+    (cut-left x begin end k (omega arith))
+    (cut-left x (getD x k nan) end k (omega arith)))
 
 -- ---- intervals put behind those that are there
 push-append : (l m : List Interval) (s : Intervals) → pushAll (l ++ m) s ≡ pushAll m (pushAll l s)
@@ -247,9 +186,3 @@ module _ {x : List Float} {e : Edges} {made : Intervals} {left i : ℕ} {r : Int
   divide-end h =
       let l : length (bandsOf e) ≤ i = omega (arith, length-take (e .count) (e .list)) in
       rw (drop-of-length-le (bandsOf e) {i = i} l) at (g .rest)
-
--- ---- what the sizes that are taken guarantee
-pub subdivide-sized : (n : ℕ) (e : Edges) → subdivideSized n e ≡ true → (n ≤ 65) × (e .count ≤ 8)
-subdivide-sized n e h =
-    let p = and-1 (leb 1 n && leb n 65) (leb 1 (e .count)) (and-1 (leb 1 n && leb n 65 && leb 1 (e .count)) (leb (e .count) 8) h) in
-    (leb-true n 65 (and-2 (leb 1 n) (leb n 65) p), leb-true (e .count) 8 (and-2 (leb 1 n && leb n 65 && leb 1 (e .count)) (leb (e .count) 8) h))

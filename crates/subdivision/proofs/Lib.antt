@@ -1,3 +1,4 @@
 pub mod WalkLaws
+pub mod Bound
 pub mod CutLaws
 pub mod Cases

@@ -1,11 +1,11 @@
 -- The first extremal frequencies: equal spacing over the bands' total length, clamped to the band's end (document 01). Bands are
 -- intervals in radians, in rising order.
 use Prim.Native.Nat.{ℕ, zero, suc, _+_, _-_}
-use mathlib.Core.Bool.{Bool, true, _&&_, _||_, cond}
+use mathlib.Core.Bool.{Bool, _&&_, _||_, cond}
 use mathlib.Core.List.{List, [], _∷_}
 use lib.Dec.{leb, eqb}
 use lib.IntN.{pos}
-use lib.ListN.{length, getD, take}
+use lib.ListN.{getD}
 use lib.Ieee.{Float, nan, binary64, ofInt, le}
 use lib.Ieee.Scale.{finite}
 use Rattle.numbers.specs.Floats.{zero64, lesser}
@@ -36,7 +36,8 @@ walked e s (suc k) w =
     let next = walked e s k (record { band = w .band + 1; consumed = w .consumed ⊕ l }) in
     cond (le (s ⊖ w .consumed) l || eqb (w .band) (e .count - 1)) w next
 
--- the point that lies s along the bands, clamped to the band's end; one that is no number gives the end, as the minimum of the Rust does
+-- the point that lies s along the bands, clamped to the band's end; where the sum is no number the point is the end, as the Rust's
+-- minimum has it
 abbrev pub pointAt : Edges → Float → Walk → Float
 pointAt e s w = let b = bandOf e (w .band) in lesser (b .end) (b .begin ⊕ (s ⊖ w .consumed))
 

@@ -5,16 +5,15 @@ use mathlib.Core.List.{List, [], _∷_, _++_}
 use lib.Dec.{leb}
 use lib.ListN.{length, getD, take, set, replicate}
 use lib.Ieee.{Float, nan, lt, eq}
-use lib.Ieee.Scale.{finite}
 use Rattle.numbers.specs.Floats.{zero64, allFinite}
-use Rattle.numbers.specs.Loops.{tab, every}
+use Rattle.numbers.specs.Loops.{tab}
 use Rattle.numbers.specs.Outcome.{Outcome, gave, unless}
 use Rattle.fir_types.specs.declared.edges.Interval.{Interval}
 use Rattle.fir_types.specs.declared.edges.Edges.{Edges}
 use Rattle.fir_types.specs.Edges.{interval}
 use Rattle.subdivision.specs.declared.cuts.Intervals.{Intervals}
 use Rattle.subdivision.specs.declared.cuts.Cutting.{Cutting}
-use Rattle.subdivision.specs.First.{bandOf, edgesFinite}
+use Rattle.subdivision.specs.First.{edgesFinite}
 
 -- the intervals of one band from `begin` on, and the points that are left. A point right of the band's end stays; one at its end is
 -- consumed; one inside ends an interval and begins the next, but one equal to the running begin makes none; one below it makes
@@ -38,12 +37,15 @@ unfoldable pub cutBands : List Interval → List Float → List Interval
 cutBands [] l = []
 cutBands (b ∷ bs) l = let c = cutBand (b .begin) (b .end) l in c .made ++ cutBands bs (c .left)
 
--- the points in rising order; the last k of them
-abbrev pub risingLast : List Float → ℕ → List Float
-risingLast x k = tab (λ i. getD x (length x - 1 - i) nan) k (length x - k)
+-- the points in rising order: those of the list from its back; and the last k of them
+abbrev pub fromBack : List Float → ℕ → Float
+fromBack x i = getD x (length x - 1 - i) nan
 
 abbrev pub rising : List Float → List Float
-rising x = tab (λ i. getD x (length x - 1 - i) nan) (length x) 0
+rising x = tab (fromBack x) (length x) 0
+
+abbrev pub risingLast : List Float → ℕ → List Float
+risingLast x k = tab (fromBack x) k (length x - k)
 
 unfoldable pub subdivided : List Float → Edges → List Interval
 subdivided x e = cutBands (take (e .count) (e .list)) (rising x)

@@ -23,9 +23,9 @@ pub struct Divided {
 }
 
 // The intervals made so far, and how many points are left: the first of the list, since the points fall.
-pub struct Cutting {
-    pub intervals: Intervals,
-    pub left: usize,
+struct Cutting {
+    intervals: Intervals,
+    left: usize,
 }
 
 fn nothing() -> Intervals

@@ -2,7 +2,6 @@ ghost use mathlib.Core.Path.{_≡_};
 ghost use mathlib.Core.List.{_++_};
 ghost use Prim.Native.Nat.{_+_, _<_, _≤_};
 ghost use lib.ListN.{length, drop};
-ghost use lib.Ieee.{Float};
 ghost use Rattle.numbers.specs.Outcome.{neededListOf};
 ghost use Rattle.numbers.specs.Refusals.{Filled};
 ghost use Rattle.subdivision.specs.First.{lengthOf, totalLength, walked, pointAt, pointsFrom, atStart, firstPoints, firstSized, firstFor};
@@ -12,9 +11,9 @@ use numbers::Refusal;
 use numbers::Verdict;
 
 // The band that a walk along the bands has reached, and the length of those before it.
-pub struct Walk {
-    pub band: usize,
-    pub consumed: f64,
+struct Walk {
+    band: usize,
+    consumed: f64,
 }
 
 fn length_of(b: Interval) -> f64

@@ -2,7 +2,6 @@
 ghost use mathlib.Core.Path.{_≡_};
 ghost use mathlib.Core.Bool.{_&&_};
 ghost use Prim.Native.Nat.{_<_, _≤_};
-ghost use lib.Dec.{leb};
 ghost use lib.Ieee.Scale.{finite};
 ghost use Rattle.subdivision.specs.First.{bandOf, edgesFinite};
 
@@ -15,6 +14,7 @@ pub use cuts::subdivide;
 use fir_types::Edges;
 pub use first::initial_extremal_freqs;
 
+// The test of the edges, which both modules make, is private: it wants no more bands than there are places.
 fn is_band_finite(bands: Edges, i: usize) -> bool
     requires { ⌜ i < 8 ⌝ }
     ensures { λ r. ⌜ r ≡ (finite (bandOf bands i .begin) && finite (bandOf bands i .end)) ⌝ }

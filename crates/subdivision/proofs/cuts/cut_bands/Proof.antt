@@ -14,6 +14,10 @@ Inv-loop x bands n made₀ left₀ i₀ made left i = (n ≡ bands .count) × Di
 abbrev μ-loop : tie.MeasureT-loop
 μ-loop x bands n made₀ left₀ i₀ made left i = n - i
 
+-- the array of bands has 8 places
+long : (c : tie.Start Inv-loop μ-loop) → length (c .args .t2 .list) ≡ 8
+long c = sym (length-map (c .args .t2 .list) _) ∙ c .good .1 .0 .1 .1 .0 .1 .0 .1
+
 nothing-requires : tie.Need-nothing-requires Inv-loop μ-loop
 nothing-requires c κs = search needs
 
@@ -38,7 +42,7 @@ loop-less c = search needs
 loop-again : tie.Need-loop-again Inv-loop μ-loop
 loop-again c =
     let v = c .before .before .before .before .loop .inv in
-    let q : length (c .before .before .before .before .before .before .before .args .t2 .list) ≡ 8 = sym (length-map (c .before .before .before .before .before .before .before .args .t2 .list) _) ∙ c .before .before .before .before .before .before .before .good .1 .0 .1 .1 .0 .1 .0 .1 in
+    let q = long (c .before .before .before .before .before .before .before) in
     (v .0, divide-next (v .1) (c .before .before .before .loop-test .taken) (search needs) (c .before .cut-band .ensures))
 
 returns : tie.Need-returns Inv-loop μ-loop

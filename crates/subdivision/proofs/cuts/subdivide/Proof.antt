@@ -4,7 +4,7 @@ use borrow.Author.Tests.{not-true, not-false}
 use lib.ListN.{length}
 use Rattle.numbers.proofs.OutcomeLaws.{answers-none, answers}
 use Rattle.subdivision.specs.Subdivide.{subdivideFor}
-use Rattle.subdivision.proofs.CutLaws.{subdivide-sized}
+use Rattle.subdivision.proofs.Bound.{subdivide-sized}
 use borrow.Author.Needs.{needs}
 use Rattle.subdivision.proofs.cuts.subdivide.Statement.{statement}
 use Rattle.subdivision.proofs.cuts.subdivide.Tie as tie
@@ -31,10 +31,16 @@ returns-2 : tie.Need-returns-2
 unfolding subdivideFor
 returns-2 c =
     rw (c .refused2 .ensures .0, c .refused2 .ensures .1)
-    (answers-none (rw (sym (c .before .before .before .before .is-sized .ensures) ∙ not-false _ (c .before .before .before .if1 .left), sym (c .before .before .all-finite .ensures) ∙ not-true _ (c .before .if2 .taken))))
+    (answers-none
+    (rw (
+      sym (c .before .before .before .before .is-sized .ensures) ∙ not-false _ (c .before .before .before .if1 .left),
+      sym (c .before .before .all-finite .ensures) ∙ not-true _ (c .before .if2 .taken),
+    )))
 
 are-edges-finite-requires : tie.Need-are-edges-finite-requires
-are-edges-finite-requires c κs = subdivide-sized (length (c .before .before .before .before .before .args .x .now)) (c .before .before .before .before .before .args .bands) (sym (c .before .before .before .is-sized .ensures) ∙ not-false _ (c .before .before .if1 .left)) .1
+are-edges-finite-requires c κs =
+    subdivide-sized (length (c .before .before .before .before .before .args .x .now)) (c .before .before .before .before .before .args .bands)
+    (sym (c .before .before .before .is-sized .ensures) ∙ not-false _ (c .before .before .if1 .left)) .1
 
 refused-requires-3 : tie.Need-refused-requires-3
 refused-requires-3 c κs = search needs
@@ -51,7 +57,9 @@ returns-3 c =
     )))
 
 cut-bands-requires : tie.Need-cut-bands-requires
-cut-bands-requires c κs = subdivide-sized _ (c .before .before .before .before .before .before .before .args .bands) (sym (c .before .before .before .before .before .is-sized .ensures) ∙ not-false _ (c .before .before .before .before .if1 .left))
+cut-bands-requires c κs =
+    subdivide-sized _ (c .before .before .before .before .before .before .before .args .bands)
+    (sym (c .before .before .before .before .before .is-sized .ensures) ∙ not-false _ (c .before .before .before .before .if1 .left))
 
 returns-4 : tie.Need-returns-4
 unfolding subdivideFor

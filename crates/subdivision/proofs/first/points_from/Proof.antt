@@ -30,9 +30,7 @@ array-share-prefix-points c = search needs
 
 slice-aggregate-needed-list : tie.Need-slice-aggregate-needed-list
 slice-aggregate-needed-list c =
-    let a = c .before .before .before .before .before .before .before .args in
-    sym
-    (ap length (points-front _ _ _ _ _ _ (c .before .before .points-into .ensures)) ∙ length-points _ _ _ _ _)
+    sym (ap length (points-front _ _ _ _ _ _ (c .before .before .points-into .ensures)) ∙ length-points _ _ _ _ _)
 
 needed-list-requires : tie.Need-needed-list-requires
 needed-list-requires c κs = search needs

@@ -36,9 +36,7 @@ walk-on-requires c κs = search needs
 
 point-at-requires : tie.Need-point-at-requires Inv-loop μ-loop
 point-at-requires c κs =
-    let h : c .walk-on .result .band < c .before .before .before .before .before .args .bands .count =
-    rw (c .walk-on .ensures) (walked-within _ _ _ _ (c .before .before .before .loop .inv .2))
-    in
+    let h : c .walk-on .result .band < c .before .before .before .before .before .args .bands .count = rw (c .walk-on .ensures) (walked-within _ _ _ _ (c .before .before .before .loop .inv .2)) in
     search needs
 
 mul-out : tie.Need-mul-out Inv-loop μ-loop
@@ -59,8 +57,8 @@ loop-again c =
       simp length-set (v .0),
       search needs,
       rw (c .before .walk-on .ensures) (walked-within _ _ _ _ (v .2)),
-      points-write _ _ _ _ _ _ _ _ _ _ (v .3) (c .before .before .before .loop-test .taken) (search needs) (rw (c .before .before .whole .ensures)) (c .before .walk-on .ensures)
-          (c .point-at .ensures),
+      points-write _ _ _ _ _ _ _ _ _ _ (v .3) (c .before .before .before .loop-test .taken) (search needs)
+          (rw (c .before .before .whole .ensures)) (c .before .walk-on .ensures) (c .point-at .ensures),
     )
 
 same-length : tie.Need-same-length Inv-loop μ-loop
