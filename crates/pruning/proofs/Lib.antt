@@ -4,3 +4,6 @@ pub mod Places
 pub mod RunLaws
 pub mod PairLaws
 pub mod Cases
+pub mod ViewLaws
+pub mod Sorted
+pub mod SortLaws

@@ -1,7 +1,8 @@
 -- Candidates in lent words, two words each: x and the error. The view of the words is a list of records.
-use Prim.Native.Nat.{ℕ}
+use Prim.Native.Nat.{ℕ, _*_}
 use mathlib.Core.List.{List, [], _∷_, map}
-use lib.ListN.{take, set}
+use mathlib.Core.Path.{_≡_}
+use lib.ListN.{length, take, drop, set}
 use Rattle.numbers.specs.Floats.{zero64}
 use Rattle.numbers.specs.Words.{ofWord, toWord}
 use Rattle.pruning.specs.declared.candidates.Candidate.{Candidate}
@@ -31,6 +32,9 @@ wordsOf [] t = t
 wordsOf (r ∷ l) t = r .x ∷ r .error ∷ wordsOf l t
 
 -- what stands past the end
+abbrev pub zeros : Raw
+zeros = record { x = 0; error = 0 }
+
 abbrev pub none : Candidate
 none = record { x = zero64; error = zero64 }
 
@@ -48,3 +52,12 @@ putRaw w i r = wordsOf (set (raws w) i r) (leftover w)
 
 abbrev pub put : List ℕ → ℕ → Candidate → List ℕ
 put w i c = putRaw w i (rawOf c)
+
+-- c as it is read after it was written: c itself where it holds no NaN
+abbrev pub written : Candidate → Candidate
+written c = candidate (rawOf c)
+
+-- w' has the length of w, and its words from the n-th candidate on
+pub record Framed (n : ℕ) (w w' : List ℕ) : Type 0 where
+  pub long : length w' ≡ length w
+  pub rest : drop (2 * n) w' ≡ drop (2 * n) w
