@@ -2,6 +2,7 @@ pub mod LoopLaws
 pub mod Lanes
 pub mod InPlace
 pub mod Fronts
+pub mod MapLaws
 pub mod OutcomeLaws
 pub mod Given
 pub mod Unique

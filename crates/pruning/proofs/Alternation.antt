@@ -48,7 +48,8 @@ module _ {A : Type 0} (negative : A → Bool) where
   drift z y [] = omega arith
   drift z y (x ∷ l) = omega (arith, bit (unlike z (negative x)))
 
-  passed : (t z : Bool) (x : A) (l : List A) (n : ℕ) → unlike z (negative x) ≡ t → n ≤ changes z l → n ≤ cond t 1 0 + changes (negative x) l
+  passed : (t z : Bool) (x : A) (l : List A) (n : ℕ) → unlike z (negative x) ≡ t → n ≤ changes z l
+      → n ≤ cond t 1 0 + changes (negative x) l
   passed true z x l n e h = omega (arith, drift z (negative x) l)
   passed false z x l n e h = omega (arith, subst (λ (y : Bool). n ≤ changes y l) (like z (negative x) e) h)
 
@@ -111,8 +112,9 @@ module _ {A : Type 0} (negative : A → Bool) where
     runs-count b [] = refl
     runs-count b (a ∷ l) =
         let e = better-sign b a in
-        let h : length (runsFrom negative size (better negative size b a) l) ≡ suc (changes (negative a) l) = rw e at (runs-count (better negative size b a) l) in
-        omega (arith, length-emit (turned negative size b a) b (runsFrom negative size (better negative size b a) l))
+        let r = runsFrom negative size (better negative size b a) l in
+        let h : length r ≡ suc (changes (negative a) l) = rw e at (runs-count (better negative size b a) l) in
+        omega (arith, length-emit (turned negative size b a) b r)
 
     -- entries that alternate are no more than the runs
     pub longest : (l u : List A) → Sub u l → Alternate negative u → length u ≤ length (runs negative size l)

@@ -79,7 +79,8 @@ module _ {A : Type 0} (negative : A → Bool) (size : A → Float) where
       let s : (k - n) / 2 ≡ suc ((k - 2 - n) / 2) = omega arith in
       let g : length (take k l) ≡ k = length-take-le k l f in
       let i : w + 2 ≤ length (take k l) = omega (arith, pair-inside k l f (omega arith)) in
-      let q : take (k - 2) l' ≡ dropPair (weakest negative size (take k l)) (take k l) = t ∙ sym (pair-is w (take k l) i) ∙ ap (λ (z : ℕ). dropPair z (take k l)) e in
+      let q : take (k - 2) l' ≡ dropPair (weakest negative size (take k l)) (take k l) =
+      t ∙ sym (pair-is w (take k l) i) ∙ ap (λ (z : ℕ). dropPair z (take k l)) e in
       record { within = omega arith; even = omega arith; rest = rw q (rw s at (a .rest)) }
 
   pub pairs-end : {n k : ℕ} {l r : List A} → Dropping n k l r → k ≤ n → take n l ≡ r
@@ -103,7 +104,8 @@ module _ {A : Type 0} (negative : A → Bool) (size : A → Float) where
   end-is d (x ∷ l) h = let e : suc (length l) - 1 ≡ length l = omega arith in rw (e, last-is d x l)
 
   module _ (d : A) (l : List A) (m : ℕ) (fits : m ≤ length l) (some : 1 ≤ m) where
-    end-of : withoutEnd negative size (take m l) ≡ cond (le (size (getD l (m - 1) d)) (size (getD l 0 d))) (take (m - 1) (take m l)) (drop 1 (take m l))
+    end-of : withoutEnd negative size (take m l)
+        ≡ cond (le (size (getD l (m - 1) d)) (size (getD l 0 d))) (take (m - 1) (take m l)) (drop 1 (take m l))
     end-of =
         let here : length (take m l) ≡ m = length-take-le m l fits in
         rw (← getD-take m l (m - 1) d (omega arith), ← getD-take m l 0 d (omega arith)) (rw here at (end-is d (take m l) (omega arith)))
@@ -119,14 +121,15 @@ module _ {A : Type 0} (negative : A → Bool) (size : A → Float) where
     here : length (take m l) ≡ m
     here = length-take-le m l fits
 
-    pub cut-odd : (m - n) % 2 ≡ 1 → (l' : List A) → take (m - 1) l' ≡ withoutEnd negative size (take m l)
-        → withoutPairs negative size ((m - 1 - n) / 2) (take (m - 1) l') ≡ cut negative size n (take m l)
-    cut-odd o l' e =
+    pub cut-odd : (m - n) % 2 ≡ 1 → (l' : List A) {u : List A} → take (m - 1) l' ≡ withoutEnd negative size (take m l)
+        → u ≡ withoutPairs negative size ((m - 1 - n) / 2) (take (m - 1) l') → u ≡ cut negative size n (take m l)
+    cut-odd o l' {u} e f =
         let s : (m - 1 - n) / 2 ≡ (m - n) / 2 = omega arith in
-        rw (here, eq-eqb ((m - n) % 2) 1 o, e, s)
+        rw (here, eq-eqb ((m - n) % 2) 1 o, f, e, s)
 
-    pub cut-even : ((m - n) % 2 ≡ 1 → ⊥) → withoutPairs negative size ((m - n) / 2) (take m l) ≡ cut negative size n (take m l)
-    cut-even o = rw (here, ne-eqb ((m - n) % 2) 1 o)
+    pub cut-even : {u : List A} → ((m - n) % 2 ≡ 1 → ⊥)
+        → u ≡ withoutPairs negative size ((m - n) / 2) (take m l) → u ≡ cut negative size n (take m l)
+    cut-even {u} o f = rw (here, ne-eqb ((m - n) % 2) 1 o, f)
 
   -- ---- the outcome, where the first m are the runs of all
   module _ (n m : ℕ) (l all : List A) (fits : m ≤ length l) (are : take m l ≡ runs negative size all) where

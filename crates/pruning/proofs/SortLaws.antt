@@ -8,14 +8,14 @@ use native.Mathlib.Numerals.{add-one}
 use native.Mathlib.Omega.{arith}
 use borrow.Author.Tests.{leb-true, leb-false}
 use lib.Dec.{leb}
-use lib.ListN.{length, set, length-set, getD, take, drop, length-append, length-drop, drop-of-length-le, take-append-drop, List·getD-append}
+use lib.ListN.{length, set, length-set, getD, take, drop, length-append, drop-of-length-le, take-append-drop, List·getD-append}
 use lib.Seq.{drop-cons, drop-drop, take-suc, take-take, take-all, take-at, drop-at, getD-take, getD-at, set-at, split-at, length-take-le}
 use lib.Ieee.{Float, lt, isNan}
+use Rattle.numbers.proofs.MapLaws.{map-take}
 use Rattle.numbers.proofs.Order.{not-lt-trans}
 use Rattle.numbers.proofs.WordLaws.{number-is-no-nan}
-use Rattle.pruning.specs.declared.candidates.Candidate.{Candidate}
 use Rattle.pruning.specs.declared.candidates.Raw.{Raw}
-use Rattle.pruning.specs.Candidates.{candidate, raws, leftover, wordsOf, zeros, view, putRaw, Framed}
+use Rattle.pruning.specs.Candidates.{candidate, raws, leftover, wordsOf, zeros, all, view, putRaw, Framed}
 use Rattle.pruning.specs.Sort.{insert, onto, sorted, NoneBelow, Ordered, byX, byWord, sortedWords, insertedWords, Insertable}
 use Rattle.pruning.proofs.ViewLaws.{length-raws, raws-words, leftover-words, words-are, length-same, drop-words}
 use Rattle.pruning.proofs.Sorted.{sorted-ordered, sorted-more, length-sorted}
@@ -36,11 +36,14 @@ module _ {A : Type 0} (key : A → Float) (d : A) where
   insert-here n c [] (suc k) h o f g = absurd (omega arith)
   insert-here n c (y ∷ l) zero h o f g = rw (g (omega arith))
   insert-here n c (y ∷ l) (suc zero) h o f g =
-      rw (f zero refl) (ap (λ (r : List A). y ∷ r) (insert-here n c l zero (omega arith) (o .1) (λ j e. absurd (omega arith)) (λ q. g (omega arith))))
+      rw (f zero refl)
+      (ap (λ (r : List A). y ∷ r) (insert-here n c l zero (omega arith) (o .1) (λ j e. absurd (omega arith)) (λ q. g (omega arith))))
   insert-here n c (y ∷ l) (suc (suc k)) h o f g =
       let e : lt (key c) (key (getD l k d)) ≡ false = f (suc k) refl in
-      let t : lt (key c) (key y) ≡ false = not-lt-trans (key y) (key (getD l k d)) (key c) (n (getD l k d)) (none-at (key y) l k (o .0) (omega arith)) e in
-      rw t (ap (λ (r : List A). y ∷ r) (insert-here n c l (suc k) (omega arith) (o .1) (λ j q. f (suc j) (ap suc q)) (λ q. g (omega arith))))
+      let t : lt (key c) (key y) ≡ false =
+      not-lt-trans (key y) (key (getD l k d)) (key c) (n (getD l k d)) (none-at (key y) l k (o .0) (omega arith)) e in
+      rw t
+      (ap (λ (r : List A). y ∷ r) (insert-here n c l (suc k) (omega arith) (o .1) (λ j q. f (suc j) (ap suc q)) (λ q. g (omega arith))))
 
   -- ---- the hole at k: before it all is as it was, from it on everything up to i has moved up
   pub record Shifting (r : List A) (i : ℕ) (c : A) (k : ℕ) (s : List A) : Type 0 where
@@ -67,13 +70,19 @@ module _ {A : Type 0} (key : A → Float) (d : A) where
       read-suc j a =
           let w : suc j ≤ i = a .within in
           let l : length (take (suc j) r) ≡ suc j = length-take-le (suc j) r (omega arith) in
-          rw (a .rest, List·getD-append (take (suc j) r) (a .hole ∷ (drop (suc j) (take i r) ++ drop (i + 1) r)) d j (omega arith), getD-take (suc j) r j d (omega arith))
+          rw (
+            a .rest,
+            List·getD-append (take (suc j) r) (a .hole ∷ (drop (suc j) (take i r) ++ drop (i + 1) r)) d j (omega arith),
+            getD-take (suc j) r j d (omega arith),
+          )
 
-      next-suc : (j : ℕ) → Shifting r i c (suc j) s → lt (key c) (key (getD r j d)) ≡ true → Shifting r i c j (set s (suc j) (getD r j d))
+      next-suc : (j : ℕ) → Shifting r i c (suc j) s → lt (key c) (key (getD r j d)) ≡ true
+          → Shifting r i c j (set s (suc j) (getD r j d))
       next-suc j a t =
           let w : suc j ≤ i = a .within in
           let l : length (take (suc j) r) ≡ suc j = length-take-le (suc j) r (omega arith) in
-          let q : drop j (take i r) ≡ getD r j d ∷ drop (suc j) (take i r) = rw (drop-cons (take i r) j d (omega (arith, front)), getD-take i r j d (omega arith)) in
+          let q : drop j (take i r) ≡ getD r j d ∷ drop (suc j) (take i r) =
+          rw (drop-cons (take i r) j d (omega (arith, front)), getD-take i r j d (omega arith)) in
           record {
             within = omega arith;
             above = λ h. t;
@@ -94,13 +103,16 @@ module _ {A : Type 0} (key : A → Float) (d : A) where
           ∙ ap (λ (z : List A). z ++ c ∷ (drop k (take i r) ++ drop (i + 1) r)) (sym (take-take k i r w))
           ∙ sym (append-assoc (take k (take i r)) (c ∷ drop k (take i r)) (drop (i + 1) r))
           ∙ ap (λ (z : List A). z ++ drop (i + 1) r)
-          (insert-here n c (take i r) k (omega (arith, front)) o (λ j e. ap (λ (y : A). lt (key c) (key y)) (getD-take i r j d (omega arith)) ∙ f j e) (λ h. ap (λ (y : A). lt (key c) (key y)) (getD-take i r k d (omega (arith, front))) ∙ a .above (omega (arith, front))))
+          (insert-here n c (take i r) k (omega (arith, front)) o
+          (λ j e. rw (getD-take i r j d (omega arith)) (f j e))
+          (λ h. rw (getD-take i r k d (omega (arith, front))) (a .above (omega (arith, front)))))
 
       -- the same as the code counts
       pub shift-read : (k : ℕ) → Shifting r i c k s → 0 < k → getD s (k - 1) d ≡ getD r (k - 1) d
       shift-read k a h = let e : k ≡ suc (k - 1) = omega arith in read-suc (k - 1) (subst (λ (z : ℕ). Shifting r i c z s) e a)
 
-      pub shift-next : (k : ℕ) → Shifting r i c k s → 0 < k → lt (key c) (key (getD s (k - 1) d)) ≡ true → Shifting r i c (k - 1) (set s k (getD s (k - 1) d))
+      pub shift-next : (k : ℕ) → Shifting r i c k s → 0 < k → lt (key c) (key (getD s (k - 1) d)) ≡ true
+          → Shifting r i c (k - 1) (set s k (getD s (k - 1) d))
       shift-next k a h t =
           let e : k ≡ suc (k - 1) = omega arith in
           let q = shift-read k a h in
@@ -131,7 +143,8 @@ module _ (w : List ℕ) (i : ℕ) (inside : i < length w / 2) (c : Raw) where
   move-start = record { long = refl; last = refl; shift = shift-start byWord zeros (raws w) i in-raws c }
 
   module _ {k : ℕ} {v : List ℕ} (a : Moving w i c k v) where
-    pub move-next : {p : Raw} → 0 < k → p ≡ getD (raws v) (k - 1) zeros → lt (byWord c) (byWord p) ≡ true → Moving w i c (k - 1) (putRaw v k p)
+    pub move-next : {p : Raw} → 0 < k → p ≡ getD (raws v) (k - 1) zeros → lt (byWord c) (byWord p) ≡ true
+        → Moving w i c (k - 1) (putRaw v k p)
     move-next {p} h e t =
         record {
           long = length-same (set (raws v) k p) v (length-set (raws v) k p) ∙ a .long;
@@ -139,7 +152,8 @@ module _ (w : List ℕ) (i : ℕ) (inside : i < length w / 2) (c : Raw) where
           shift = rw (raws-words (set (raws v) k p) v, e) (shift-next byWord zeros (raws w) i in-raws c k (a .shift) h (rw e at t));
         }
 
-    pub move-end : Ordered byWord (take i (raws w)) → c ≡ getD (raws w) i zeros → (0 < k → lt (byWord c) (byWord (getD (raws v) (k - 1) zeros)) ≡ false) → putRaw v k c ≡ insertedWords w i
+    pub move-end : Ordered byWord (take i (raws w)) → c ≡ getD (raws w) i zeros
+        → (0 < k → lt (byWord c) (byWord (getD (raws v) (k - 1) zeros)) ≡ false) → putRaw v k c ≡ insertedWords w i
     move-end o e f =
         rw (shift-end byWord zeros (raws w) i in-raws c k (λ y. number-is-no-nan (y .x)) (a .shift) o f, a .last)
         (ap (λ (z : Raw). wordsOf (insert byWord z (take i (raws w)) ++ drop (i + 1) (raws w)) (leftover w)) e)
@@ -178,7 +192,9 @@ module _ (w : List ℕ) (i : ℕ) (inside : i < length w / 2) where
   sorted-insertable =
       record {
         inside = rw (length-sorted-words w i) inside;
-        ordered = rw (raws-sorted w i, take-at (sorted byWord (take i (raws w))) (drop i (raws w)) i long) (sorted-ordered byWord (take i (raws w)));
+        ordered =
+            rw (raws-sorted w i, take-at (sorted byWord (take i (raws w))) (drop i (raws w)) i long)
+            (sorted-ordered byWord (take i (raws w)));
       }
 
   pub sorted-next : insertedWords (sortedWords w i) i ≡ sortedWords w (i + 1)
@@ -187,7 +203,8 @@ module _ (w : List ℕ) (i : ℕ) (inside : i < length w / 2) where
       let s = sorted byWord (take i (raws w)) in
       let h : i < length (raws w) = omega (arith, pairs) in
       let q : drop i (raws w) ≡ getD (raws w) i zeros ∷ drop (suc i) (raws w) = drop-cons (raws w) i zeros h in
-      let at : getD (s ++ drop i (raws w)) i zeros ≡ getD (raws w) i zeros = rw q (getD-at s (getD (raws w) i zeros) (drop (suc i) (raws w)) zeros i long) in
+      let at : getD (s ++ drop i (raws w)) i zeros ≡ getD (raws w) i zeros =
+      rw q (getD-at s (getD (raws w) i zeros) (drop (suc i) (raws w)) zeros i long) in
       let after : drop (i + 1) (s ++ drop i (raws w)) ≡ drop (i + 1) (raws w) =
       sym (drop-drop 1 i (s ++ drop i (raws w))) ∙ ap (drop 1) (drop-at s (drop i (raws w)) i long) ∙ drop-drop 1 i (raws w) in
       let more : sorted byWord (take (i + 1) (raws w)) ≡ insert byWord (getD (raws w) i zeros) s =
@@ -199,7 +216,9 @@ pub sorted-min : (w : List ℕ) (m n : ℕ) → m ≡ min n (length w / 2) → s
 unfolding sortedWords
 sorted-min w m n e = pick (leb n (length (raws w))) refl
   where
-    pick : (t : Bool) → leb n (length (raws w)) ≡ t → wordsOf (sorted byWord (take m (raws w)) ++ drop m (raws w)) (leftover w) ≡ wordsOf (sorted byWord (take n (raws w)) ++ drop n (raws w)) (leftover w)
+    pick : (t : Bool) → leb n (length (raws w)) ≡ t
+        → wordsOf (sorted byWord (take m (raws w)) ++ drop m (raws w)) (leftover w)
+        ≡ wordsOf (sorted byWord (take n (raws w)) ++ drop n (raws w)) (leftover w)
     pick true t = let z : m ≡ n = omega (arith, leb-true n (length (raws w)) t, length-raws w) in rw z
     pick false t =
         let a : length (raws w) ≤ n = omega (arith, leb-false n (length (raws w)) t) in
@@ -207,7 +226,8 @@ sorted-min w m n e = pick (leb n (length (raws w))) refl
         rw (take-all n (raws w) a, take-all m (raws w) b, drop-of-length-le (raws w) {i = n} a, drop-of-length-le (raws w) {i = m} b)
 
 -- ---- the view of the sorted words is the sorted view
-map-insert : {A B : Type 0} (f : A → B) (key : B → Float) (c : A) (l : List A) → map f (insert (λ a. key (f a)) c l) ≡ insert key (f c) (map f l)
+map-insert : {A B : Type 0} (f : A → B) (key : B → Float) (c : A) (l : List A)
+    → map f (insert (λ a. key (f a)) c l) ≡ insert key (f c) (map f l)
 unfolding insert
 map-insert f key c [] = refl
 map-insert {A} {B} f key c (y ∷ l) = pick (lt (key (f c)) (key (f y))) (map-insert f key c l)
@@ -217,28 +237,30 @@ map-insert {A} {B} f key c (y ∷ l) = pick (lt (key (f c)) (key (f y))) (map-in
     pick true e = refl
     pick false e = ap (λ (z : List B). f y ∷ z) e
 
-map-onto : {A B : Type 0} (f : A → B) (key : B → Float) (s l : List A) → map f (onto (λ a. key (f a)) s l) ≡ onto key (map f s) (map f l)
+map-onto : {A B : Type 0} (f : A → B) (key : B → Float) (s l : List A)
+    → map f (onto (λ a. key (f a)) s l) ≡ onto key (map f s) (map f l)
 unfolding onto
 map-onto f key s [] = refl
 map-onto f key s (c ∷ l) = map-onto f key (insert (λ a. key (f a)) c s) l ∙ ap (λ z. onto key z (map f l)) (map-insert f key c s)
-
-map-take : {A B : Type 0} (f : A → B) (n : ℕ) (l : List A) → map f (take n l) ≡ take n (map f l)
-map-take f zero l = refl
-map-take f (suc n) [] = refl
-map-take {A} {B} f (suc n) (x ∷ l) = ap (λ (z : List B). f x ∷ z) (map-take f n l)
 
 front-is : {A : Type 0} (key : A → Float) (n : ℕ) (l : List A) → take n (sorted key (take n l) ++ drop n l) ≡ sorted key (take n l)
 front-is key n l = pick (leb n (length l)) refl
   where
     pick : (t : Bool) → leb n (length l) ≡ t → take n (sorted key (take n l) ++ drop n l) ≡ sorted key (take n l)
-    pick true t = take-at (sorted key (take n l)) (drop n l) n (length-sorted key (take n l) ∙ length-take-le n l (leb-true n (length l) t))
+    pick true t =
+        take-at (sorted key (take n l)) (drop n l) n (length-sorted key (take n l) ∙ length-take-le n l (leb-true n (length l) t))
     pick false t =
         let h : length l ≤ n = omega (arith, leb-false n (length l) t) in
         rw (drop-of-length-le l {i = n} h, append-nil, take-all n l h) (take-all n (sorted key l) (omega (arith, length-sorted key l)))
 
 pub view-sorted : (w : List ℕ) (n : ℕ) → view (sortedWords w n) n ≡ sorted byX (view w n)
+unfolding all
 view-sorted w n =
-    rw (raws-sorted w n, ← map-take candidate n (sorted byWord (take n (raws w)) ++ drop n (raws w)), front-is byWord n (raws w))
+    rw (
+      raws-sorted w n,
+      ← map-take candidate n (sorted byWord (take n (raws w)) ++ drop n (raws w)),
+      front-is byWord n (raws w),
+    )
     (map-onto candidate byX [] (take n (raws w)) ∙ ap (sorted byX) (map-take candidate n (raws w)))
 
 -- beyond them every word stays

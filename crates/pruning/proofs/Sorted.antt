@@ -1,8 +1,9 @@
 -- The sort by a key: no entry is below an earlier one, the entries are those that were given, and those of one key stay in
 -- their order; for every list, also where a key is a NaN. Assumes nothing.
-use Prim.Native.Nat.{ℕ, suc, _+_}
+use Prim.Native.Nat.{suc, _+_}
 use mathlib.Core.Path.{_≡_, refl, ap, sym, _∙_}
-use mathlib.Core.List.{List, [], _∷_, _++_, append-assoc, append-nil, List·Permᴰ, List·Permᴰ·cons, List·Permᴰ·swap, List·Permᴰ·trans, Permᴰ·refl, Permᴰ·append-left, Permᴰ·append-nil, Permᴰ·middle}
+use mathlib.Core.List.{List, [], _∷_, _++_, append-assoc, append-nil}
+use mathlib.Core.List.{List·Permᴰ, List·Permᴰ·cons, List·Permᴰ·swap, List·Permᴰ·trans, Permᴰ·refl, Permᴰ·append-left, Permᴰ·append-nil, Permᴰ·middle}
 use mathlib.Core.Bool.{Bool, true, false, cond}
 use native.Mathlib.Omega.{arith}
 use lib.ListN.{length}
@@ -45,7 +46,8 @@ module _ {A : Type 0} (key : A → Float) where
   insert-ordered c [] o = (tt, tt)
   insert-ordered c (y ∷ l) o = pick (lt (key c) (key y)) refl (insert-ordered c l (o .1))
     where
-      pick : (t : Bool) → lt (key c) (key y) ≡ t → Ordered key (insert key c l) → Ordered key (cond t (c ∷ y ∷ l) (y ∷ insert key c l))
+      pick : (t : Bool) → lt (key c) (key y) ≡ t → Ordered key (insert key c l)
+          → Ordered key (cond t (c ∷ y ∷ l) (y ∷ insert key c l))
       pick true e m = ((lt-asym (key c) (key y) e, none-lower (key c) (key y) l e (o .0)), o)
       pick false e m = (insert-none (key y) c l (o .0) e, m)
 
@@ -64,7 +66,8 @@ module _ {A : Type 0} (key : A → Float) where
   insert-same c [] = Permᴰ·refl (c ∷ [])
   insert-same c (y ∷ l) = pick (lt (key c) (key y)) (insert-same c l)
     where
-      pick : (t : Bool) → List·Permᴰ (insert key c l) (c ∷ l) → List·Permᴰ (cond t (c ∷ y ∷ l) (y ∷ insert key c l)) (c ∷ y ∷ l)
+      pick : (t : Bool) → List·Permᴰ (insert key c l) (c ∷ l)
+          → List·Permᴰ (cond t (c ∷ y ∷ l) (y ∷ insert key c l)) (c ∷ y ∷ l)
       pick true d = Permᴰ·refl (c ∷ y ∷ l)
       pick false d = List·Permᴰ·trans (List·Permᴰ·cons refl d) (List·Permᴰ·swap refl refl)
 
@@ -72,33 +75,40 @@ module _ {A : Type 0} (key : A → Float) where
   unfolding onto
   onto-same s [] = Permᴰ·refl s
   onto-same s (c ∷ l) =
-      List·Permᴰ·trans (onto-same (insert key c s) l) (List·Permᴰ·trans (Permᴰ·append-left l (insert-same c s)) (Permᴰ·middle c l s))
+      List·Permᴰ·trans (onto-same (insert key c s) l)
+      (List·Permᴰ·trans (Permᴰ·append-left l (insert-same c s)) (Permᴰ·middle c l s))
 
   pub sorted-same : (l : List A) → List·Permᴰ (sorted key l) l
   sorted-same l = List·Permᴰ·trans (onto-same [] l) (Permᴰ·append-nil l)
 
   -- ---- those of one key stay in their order
   -- where c has the key v and is below y, none of what follows y has it
-  none-left : (v : Float) (c y : A) (l : List A) → eq (key c) v ≡ true → lt (key c) (key y) ≡ true → NoneBelow key (key y) l → those key v l ≡ []
+  none-left : (v : Float) (c y : A) (l : List A) → eq (key c) v ≡ true
+      → lt (key c) (key y) ≡ true → NoneBelow key (key y) l → those key v l ≡ []
   unfolding NoneBelow those
   none-left v c y [] e h n = refl
   none-left v c y (z ∷ l) e h n = pick (eq (key z) v) refl (none-left v c y l e h (n .1))
     where
       pick : (t : Bool) → eq (key z) v ≡ t → those key v l ≡ [] → emit t z (those key v l) ≡ []
-      pick true f m = no (sym (n .0) ∙ eq-lt-trans (key z) (key c) (key y) (eq-trans (key z) v (key c) f (eq-sym (key c) v e)) h)
+      pick true f m =
+          no (sym (n .0) ∙ eq-lt-trans (key z) (key c) (key y) (eq-trans (key z) v (key c) f (eq-sym (key c) v e)) h)
       pick false f m = m
 
-  insert-stable : (v : Float) (c : A) (s : List A) → Ordered key s → those key v (insert key c s) ≡ those key v s ++ those key v (c ∷ [])
+  insert-stable : (v : Float) (c : A) (s : List A) → Ordered key s
+      → those key v (insert key c s) ≡ those key v s ++ those key v (c ∷ [])
   unfolding insert those Ordered
   insert-stable v c [] o = refl
   insert-stable v c (y ∷ l) o = pick (lt (key c) (key y)) refl (insert-stable v c l (o .1))
     where
-      first : (t u : Bool) → eq (key c) v ≡ t → eq (key y) v ≡ u → lt (key c) (key y) ≡ true → emit t c (emit u y (those key v l)) ≡ emit u y (those key v l) ++ emit t c []
+      first : (t u : Bool) → eq (key c) v ≡ t → eq (key y) v ≡ u → lt (key c) (key y) ≡ true
+          → emit t c (emit u y (those key v l)) ≡ emit u y (those key v l) ++ emit t c []
       first false u e f h = sym (append-nil _)
       first true true e f h = no (sym (lt-not-eq (key c) v (lt-eq-trans (key c) (key y) v h f)) ∙ e)
       first true false e f h = rw (none-left v c y l e h (o .0))
 
-      pick : (t : Bool) → lt (key c) (key y) ≡ t → those key v (insert key c l) ≡ those key v l ++ emit (eq (key c) v) c [] → those key v (cond t (c ∷ y ∷ l) (y ∷ insert key c l)) ≡ emit (eq (key y) v) y (those key v l) ++ emit (eq (key c) v) c []
+      pick : (t : Bool) → lt (key c) (key y) ≡ t → those key v (insert key c l) ≡ those key v l ++ emit (eq (key c) v) c []
+          → those key v (cond t (c ∷ y ∷ l) (y ∷ insert key c l))
+          ≡ emit (eq (key y) v) y (those key v l) ++ emit (eq (key c) v) c []
       pick true h m = first (eq (key c) v) (eq (key y) v) refl refl h
       pick false h m = ap (emit (eq (key y) v) y) m ∙ emit-append (eq (key y) v) y (those key v l) (emit (eq (key c) v) c [])
 
@@ -121,7 +131,8 @@ module _ {A : Type 0} (key : A → Float) where
   length-insert c [] = refl
   length-insert c (y ∷ l) = pick (lt (key c) (key y)) (length-insert c l)
     where
-      pick : (t : Bool) → length (insert key c l) ≡ suc (length l) → length (cond t (c ∷ y ∷ l) (y ∷ insert key c l)) ≡ suc (suc (length l))
+      pick : (t : Bool) → length (insert key c l) ≡ suc (length l)
+          → length (cond t (c ∷ y ∷ l) (y ∷ insert key c l)) ≡ suc (suc (length l))
       pick true m = refl
       pick false m = ap suc m
 

@@ -1,16 +1,17 @@
 -- Candidates in words: reading, writing, and what a write leaves as it was. Assumes nothing.
-use Prim.Native.Nat.{ℕ, zero, suc, _+_, _-_, _*_, _/_, _≤_, _<_, min}
+use Prim.Native.Nat.{ℕ, zero, suc, _+_, _-_, _*_, _/_, _≤_, _<_}
 use mathlib.Core.Path.{_≡_, refl, ap, sym, _∙_}
 use mathlib.Core.List.{List, [], _∷_, _++_, map}
-use mathlib.Core.Bool.{Bool, true, false, not}
+use mathlib.Core.Bool.{not}
 use native.Mathlib.Numerals.{add-one}
 use native.Mathlib.Nat.{not-suc-le-zero}
 use native.Mathlib.Omega.{arith}
 use lib.Dec.{T}
-use lib.ListN.{length, set, getD, take, drop, length-map, length-set, List·getD-map, List·getD-eq-default}
+use lib.ListN.{length, set, getD, drop, length-map, length-set, List·getD-map, List·getD-eq-default}
 use lib.Seq.{take-set-lt, take-suc-set, length-take-le, set-out, getD-drop, drop-drop}
-use lib.Ieee.{binary64, fits, isNan, ofBits, nanBits}
+use lib.Ieee.{binary64, fits, isNan, nanBits}
 use Rattle.numbers.specs.Words.{ofWord}
+use Rattle.numbers.proofs.MapLaws.{map-set}
 use Rattle.numbers.proofs.WordLaws.{again, back}
 use Rattle.pruning.specs.declared.candidates.Candidate.{Candidate}
 use Rattle.pruning.specs.declared.candidates.Raw.{Raw}
@@ -75,7 +76,8 @@ drop-words l q t n e = rw (← e) (go l)
     go (r ∷ l) = rw (two (length l)) (go l)
 
 -- ---- reading
-pub raw-is : (w : List ℕ) (i : ℕ) → i < length w / 2 → record { x = getD w (2 * i) 0; error = getD w (2 * i + 1) 0 } ≡ getD (raws w) i zeros
+pub raw-is : (w : List ℕ) (i : ℕ) → i < length w / 2
+    → record { x = getD w (2 * i) 0; error = getD w (2 * i + 1) 0 } ≡ getD (raws w) i zeros
 unfolding raws
 raw-is [] i h = absurd (not-suc-le-zero h)
 raw-is (a ∷ []) i h = absurd (not-suc-le-zero h)
@@ -87,9 +89,11 @@ unfolding ofWord nanBits
 zeros-are = refl
 
 pub read-is : (w : List ℕ) (i : ℕ) → candidate (getD (raws w) i zeros) ≡ getD (all w) i none
+unfolding all
 read-is w i = sym (List·getD-map candidate (raws w) i zeros) ∙ ap (getD (all w) i) zeros-are
 
 pub length-all : (w : List ℕ) → length (all w) ≡ length w / 2
+unfolding all
 length-all w = length-map (raws w) candidate ∙ length-raws w
 
 pub read-out : (w : List ℕ) (i : ℕ) → length w / 2 ≤ i → none ≡ getD (all w) i none
@@ -99,7 +103,8 @@ pub length-view : (w : List ℕ) (n : ℕ) → n ≤ length w / 2 → length (vi
 length-view w n h = length-take-le n (all w) (omega (arith, length-all w))
 
 -- ---- writing
-pub put-is : (w : List ℕ) (i : ℕ) (r : Raw) → i < length w / 2 → set (set w (2 * i) (r .x)) (2 * i + 1) (r .error) ≡ putRaw w i r
+pub put-is : (w : List ℕ) (i : ℕ) (r : Raw) → i < length w / 2
+    → set (set w (2 * i) (r .x)) (2 * i + 1) (r .error) ≡ putRaw w i r
 unfolding raws leftover wordsOf
 put-is [] i r h = absurd (not-suc-le-zero h)
 put-is (a ∷ []) i r h = absurd (not-suc-le-zero h)
@@ -109,16 +114,13 @@ put-is (a ∷ b ∷ w) (suc i) r h = rw (two-one i, two i) (ap (λ (l : List ℕ
 pub put-out : (w : List ℕ) (i : ℕ) (r : Raw) → length w / 2 ≤ i → w ≡ putRaw w i r
 put-out w i r h = rw (set-out (raws w) i r (omega (arith, length-raws w)), words-are w)
 
-map-set : (f : Raw → Candidate) (l : List Raw) (i : ℕ) (r : Raw) → map f (set l i r) ≡ set (map f l) i (f r)
-map-set f [] i r = refl
-map-set f (x ∷ l) zero r = refl
-map-set f (x ∷ l) (suc i) r = ap (λ (q : List Candidate). f x ∷ q) (map-set f l i r)
-
 pub all-put : (w : List ℕ) (i : ℕ) (c : Candidate) → all (put w i c) ≡ set (all w) i (written c)
+unfolding all put
 all-put w i c = ap (map candidate) (raws-words (set (raws w) i (rawOf c)) w) ∙ map-set candidate (raws w) i (rawOf c)
 
 -- a candidate of no NaN is read as it was written, and so is each that was read
-pub sound : (c : Candidate) → T (fits binary64 (c .x)) → T (not (isNan (c .x))) → T (fits binary64 (c .error)) → T (not (isNan (c .error))) → written c ≡ c
+pub sound : (c : Candidate) → T (fits binary64 (c .x)) → T (not (isNan (c .x)))
+    → T (fits binary64 (c .error)) → T (not (isNan (c .error))) → written c ≡ c
 sound c f n f' n' = rw (back (c .x) f n, back (c .error) f' n')
 
 pub read-again : (w : List ℕ) (i : ℕ) → written (getD (all w) i none) ≡ getD (all w) i none
@@ -128,11 +130,13 @@ read-again w i = rw (← read-is w i, again (getD (raws w) i zeros .x), again (g
 pub view-put : (w : List ℕ) (n i : ℕ) (c : Candidate) → written c ≡ c → i < n → view (put w i c) n ≡ set (view w n) i c
 view-put w n i c e h = rw (all-put w i c, e, take-set-lt n (all w) i c h)
 
-pub view-more : (w : List ℕ) (n : ℕ) (c : Candidate) → written c ≡ c → n < length w / 2 → view (put w n c) (n + 1) ≡ view w n ++ c ∷ []
+pub view-more : (w : List ℕ) (n : ℕ) (c : Candidate) → written c ≡ c → n < length w / 2
+    → view (put w n c) (n + 1) ≡ view w n ++ c ∷ []
 view-more w n c e h = rw (all-put w n c, e, add-one n, take-suc-set (all w) n c (omega (arith, length-all w)))
 
 -- ---- what stays
 pub length-put : (w : List ℕ) (i : ℕ) (c : Candidate) → length (put w i c) ≡ length w
+unfolding put
 length-put w i c = length-same (set (raws w) i (rawOf c)) w (length-set (raws w) i (rawOf c))
 
 drop-put : (n : ℕ) (w : List ℕ) (i : ℕ) (r : Raw) → i < n → drop (2 * n) (putRaw w i r) ≡ drop (2 * n) w
@@ -144,7 +148,7 @@ drop-put (suc n) (a ∷ b ∷ w) zero r h = rw (two n, words-are w)
 drop-put (suc n) (a ∷ b ∷ w) (suc i) r h = rw (two n) (drop-put n w i r (omega arith))
 
 drop-all : (n : ℕ) (w : List ℕ) → drop n (all w) ≡ all (drop (2 * n) w)
-unfolding raws
+unfolding all raws
 drop-all zero w = refl
 drop-all (suc n) [] = rw (two n)
 drop-all (suc n) (a ∷ []) = rw (two n)
@@ -155,6 +159,7 @@ module _ (n : ℕ) where
   framed-same w = record { long = refl; rest = refl }
 
   pub framed-put : (v w : List ℕ) (i : ℕ) (c : Candidate) → i < n → Framed n v w → Framed n v (put w i c)
+  unfolding put
   framed-put v w i c h f = record { long = length-put w i c ∙ f .long; rest = drop-put n w i (rawOf c) h ∙ f .rest }
 
   pub framed-then : (u v w : List ℕ) → Framed n u v → Framed n v w → Framed n u w

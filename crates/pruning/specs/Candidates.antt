@@ -39,7 +39,7 @@ abbrev pub none : Candidate
 none = record { x = zero64; error = zero64 }
 
 -- every candidate of the words, as many as there are pairs of words
-abbrev pub all : List ℕ → List Candidate
+unfoldable pub all : List ℕ → List Candidate
 all w = map candidate (raws w)
 
 -- the first n of them
@@ -50,7 +50,7 @@ view w n = take n (all w)
 abbrev pub putRaw : List ℕ → ℕ → Raw → List ℕ
 putRaw w i r = wordsOf (set (raws w) i r) (leftover w)
 
-abbrev pub put : List ℕ → ℕ → Candidate → List ℕ
+unfoldable pub put : List ℕ → ℕ → Candidate → List ℕ
 put w i c = putRaw w i (rawOf c)
 
 -- c as it is read after it was written: c itself where it holds no NaN

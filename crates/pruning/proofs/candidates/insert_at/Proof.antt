@@ -20,23 +20,23 @@ of-word-requires : tie.Need-of-word-requires Inv-loop μ-loop
 of-word-requires c κs = search needs
 
 loop-holds : tie.Need-loop-holds Inv-loop μ-loop
-loop-holds c = let a = c .before .before .before .before .args in move-start (a .words .now) (a .i) (c .before .before .before .before .pre .inside) _
+loop-holds c = let s = c .before .before .before .before in move-start (s .args .words .now) (s .args .i) (s .pre .inside) _
 
 sub-raw-at : tie.Need-sub-raw-at Inv-loop μ-loop
 sub-raw-at c = search needs
 
 raw-at-requires-2 : tie.Need-raw-at-requires-2 Inv-loop μ-loop
 raw-at-requires-2 c κs =
-    let l = c .before .before .loop .inv in
-    omega (arith, l .long, l .shift .within, c .before .before .before .before .before .before .before .pre .inside)
+    let l = c .before .before in
+    omega (arith, l .loop .inv .long, l .loop .inv .shift .within, l .before .before .before .before .before .pre .inside)
 
 of-word-requires-2 : tie.Need-of-word-requires-2 Inv-loop μ-loop
 of-word-requires-2 c κs = search needs
 
 put-raw-requires : tie.Need-put-raw-requires Inv-loop μ-loop
 put-raw-requires c κs =
-    let l = c .before .before .before .before .before .before .loop .inv in
-    omega (arith, l .long, l .shift .within, c .before .before .before .before .before .before .before .before .before .before .before .pre .inside)
+    let l = c .before .before .before .before .before .before in
+    omega (arith, l .loop .inv .long, l .loop .inv .shift .within, l .before .before .before .before .before .pre .inside)
 
 sub-k : tie.Need-sub-k Inv-loop μ-loop
 sub-k c = search needs
@@ -46,29 +46,30 @@ loop-less c = search needs
 
 loop-again : tie.Need-loop-again Inv-loop μ-loop
 loop-again c =
-    let a = c .before .before .before .before .before .before .before .before .before .before .before .before .before .before .args in
+    let l = c .before .before .before .before .before .before .before .before .before in
+    let s = l .before .before .before .before .before in
     let p = c .before .before .before .before .before .before .raw-at2 in
+    let t = rw (l .before .of-word .ensures, c .before .before .before .before .before .of-word2 .ensures) at (c .before .before .before .before .if1 .taken) in
     rw (c .before .before .put-raw .ensures)
-    (move-next (a .words .now) (a .i) (c .before .before .before .before .before .before .before .before .before .before .before .before .before .before .pre .inside) _ (c .before .before .before .before .before .before .before .before .before .loop .inv) (c .before .before .before .before .before .before .before .before .loop-test .taken) (p .ensures)
-    (rw (c .before .before .before .before .before .before .before .before .before .before .of-word .ensures, c .before .before .before .before .before .of-word2 .ensures) at (c .before .before .before .before .if1 .taken)))
+    (move-next (s .args .words .now) (s .args .i) (s .pre .inside) _ (l .loop .inv) (c .before .before .before .before .before .before .before .before .loop-test .taken) (p .ensures) t)
 
 put-raw-requires-2 : tie.Need-put-raw-requires-2 Inv-loop μ-loop
 put-raw-requires-2 c κs =
-    let l = c .before .before .loop .inv in
-    omega (arith, l .long, l .shift .within, c .before .before .before .before .before .before .before .pre .inside)
+    let l = c .before .before in
+    omega (arith, l .loop .inv .long, l .loop .inv .shift .within, l .before .before .before .before .before .pre .inside)
 
 same-length : tie.Need-same-length Inv-loop μ-loop
 same-length c = search needs
 
 returns : tie.Need-returns Inv-loop μ-loop
 returns c =
-    let a = c .before .before .before .before .before .before .before .before .before .before .args in
-    let p = c .before .before .before .before .before .before .before .before .before .before .pre in
+    let l = c .before .before .before .before .before in
+    let s = l .before .before .before .before .before in
     c .before .before .put-raw2 .ensures
-    ∙ move-end (a .words .now) (a .i) (p .inside) _ (c .before .before .before .before .before .loop .inv) (p .ordered) (c .before .before .before .before .before .before .before .raw-at .ensures)
+    ∙ move-end (s .args .words .now) (s .args .i) (s .pre .inside) _ (l .loop .inv) (s .pre .ordered) (l .before .before .raw-at .ensures)
     (λ h.
     ⊎-elim (λ w. absurd (omega (arith, w .left)))
-    (λ w. rw (c .before .before .before .before .before .before .of-word .ensures, w .3 .ensures, w .2 .ensures) at (w .4 .left))
+    (λ w. rw (l .before .of-word .ensures, w .3 .ensures, w .2 .ensures) at (w .4 .left))
     (c .before .before .before .before .loop-test .came))
 
 pub insert-at-spec : {M : Type 1} → statement M

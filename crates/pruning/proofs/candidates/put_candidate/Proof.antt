@@ -1,6 +1,6 @@
 -- `pruning::candidates::put_candidate` meets its contract. Assumes nothing.
 use native.Mathlib.Omega.{arith}
-use Rattle.pruning.specs.Candidates.{rawOf}
+use Rattle.pruning.specs.Candidates.{rawOf, put}
 use Rattle.pruning.proofs.ViewLaws.{put-out}
 use borrow.Author.Needs.{needs}
 use Rattle.pruning.proofs.candidates.put_candidate.Statement.{statement}
@@ -19,9 +19,13 @@ same-length : tie.Need-same-length
 same-length c = search needs
 
 returns : tie.Need-returns
-returns c = rw (c .before .before .before .before .before .to-word .ensures, c .before .before .before .before .to-word2 .ensures) at (c .before .before .put-raw .ensures)
+unfolding put
+returns c =
+    let p = c .before .before in
+    rw (p .before .before .before .to-word .ensures, p .before .before .to-word2 .ensures) at (p .put-raw .ensures)
 
 returns-2 : tie.Need-returns-2
+unfolding put
 returns-2 c = let a = c .before .before .args in put-out (a .words .now) (a .i) (rawOf (a .c)) (omega arith)
 
 pub put-candidate-spec : {M : Type 1} → statement M

@@ -17,13 +17,16 @@ abbrev μ-loop : tie.MeasureT-loop
 μ-loop words₀ n held m i₀ words i = m - i
 
 loop-holds : tie.Need-loop-holds Inv-loop μ-loop
-loop-holds c =
-    (omega arith, ⊎-elim (λ w. omega (arith, w .1)) (λ w. omega (arith, w .1)) (c .if1 .came), sorted-start (c .before .before .args .words .now))
+loop-holds c = (
+  omega arith,
+  ⊎-elim (λ w. omega (arith, w .1)) (λ w. omega (arith, w .1)) (c .if1 .came),
+  sorted-start (c .before .before .args .words .now),
+)
 
 insert-at-requires : tie.Need-insert-at-requires Inv-loop μ-loop
 insert-at-requires c κs =
-    let l = c .before .before .loop .inv in
-    rw (l .2) (sorted-insertable (c .before .before .before .before .before .args .words .now) (c .before .before .loop .i) (omega (arith, l .1)))
+    let l = c .before .before .loop in
+    rw (l .inv .2) (sorted-insertable (c .before .before .before .before .before .args .words .now) (l .i) (omega (arith, l .inv .1)))
 
 add-i : tie.Need-add-i Inv-loop μ-loop
 add-i c = search needs

@@ -1,5 +1,4 @@
 -- `pruning::errors::cut_to` meets its contract. Assumes nothing.
-use mathlib.Core.Path.{_∙_}
 use native.Mathlib.Omega.{arith}
 use Rattle.pruning.specs.Errors.{negativeAt, sizeAt}
 use Rattle.pruning.proofs.PairLaws.{cut-odd, cut-even}
@@ -26,8 +25,12 @@ returns : tie.Need-returns
 returns c =
     let a = c .before .before .before .before .before .before .before .before .before .before .before .args in
     let e = a .errors .now in
-    c .before .before .drop-pairs .ensures
-    ∙ cut-odd (negativeAt e) (sizeAt e) (a .n) (a .m) (a .kept .now) (omega arith) (c .before .before .before .before .before .before .before .before .if1 .taken) (c .before .before .before .before .before .before .drop-end .last .1 .0) (c .before .before .before .before .before .before .drop-end .ensures)
+    let d = c .before .before .before .before .before .before .drop-end in
+    cut-odd (negativeAt e) (sizeAt e) (a .n) (a .m) (a .kept .now) (omega arith)
+    (c .before .before .before .before .before .before .before .before .if1 .taken)
+    (d .last .1 .0)
+    (d .ensures)
+    (c .before .before .drop-pairs .ensures)
 
 drop-pairs-requires-2 : tie.Need-drop-pairs-requires-2
 drop-pairs-requires-2 c κs = search needs
@@ -39,8 +42,9 @@ returns-2 : tie.Need-returns-2
 returns-2 c =
     let a = c .before .before .before .before .before .before .before .args in
     let e = a .errors .now in
-    c .before .before .drop-pairs2 .ensures
-    ∙ cut-even (negativeAt e) (sizeAt e) (a .n) (a .m) (a .kept .now) (omega arith) (c .before .before .before .before .if1 .left)
+    cut-even (negativeAt e) (sizeAt e) (a .n) (a .m) (a .kept .now) (omega arith)
+    (c .before .before .before .before .if1 .left)
+    (c .before .before .drop-pairs2 .ensures)
 
 pub cut-to-spec : {M : Type 1} → statement M
 cut-to-spec =

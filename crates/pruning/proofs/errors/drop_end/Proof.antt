@@ -42,9 +42,10 @@ returns-2 : tie.Need-returns-2
 returns-2 c =
     let a = c .before .before .before .before .before .before .before .before .before .before .before .args in
     let e = a .errors .now in
+    let s = c .before .before .before .before in
     c .before .before .close .ensures
     ∙ end-first (negativeAt e) (sizeAt e) 0 (a .kept .now) (a .m) (omega arith) (omega arith)
-    (rw (c .before .before .before .before .before .before .before .size .ensures, c .before .before .before .before .before .size2 .ensures) at (c .before .before .before .before .if1 .left))
+    (rw (s .before .before .before .size .ensures, s .before .size2 .ensures) at (s .if1 .left))
 
 pub drop-end-spec : {M : Type 1} → statement M
 drop-end-spec =

@@ -48,7 +48,10 @@ loop-again c =
     let l = c .before .before .before .before .before .before .before .loop in (
       search needs,
       omega (arith, l .inv .1),
-      pairs-next (negativeAt e) (sizeAt e) (l .inv .2) (omega (arith, l .inv .0, l .inv .1)) (c .before .before .before .before .before .before .loop-test .taken) (c .before .before .before .before .weakest-pair .ensures) (c .before .before .close .ensures),
+      pairs-next (negativeAt e) (sizeAt e) (l .inv .2) (omega (arith, l .inv .0, l .inv .1))
+          (c .before .before .before .before .before .before .loop-test .taken)
+          (c .before .before .before .before .weakest-pair .ensures)
+          (c .before .before .close .ensures),
     )
 
 same-length : tie.Need-same-length Inv-loop μ-loop

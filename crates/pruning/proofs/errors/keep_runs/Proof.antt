@@ -55,7 +55,9 @@ loop-again c =
     (λ w.
     rw (w .1, w .2) (
       simp length-set (l .0),
-      runs-turn (negativeAt e) (sizeAt e) (l .1) h (omega (arith, l .0, l .1 .below, l .1 .within)) (t ∙ w .0 .taken) (c .better-of .ensures),
+      runs-turn (negativeAt e) (sizeAt e) (l .1) h (omega (arith, l .0, l .1 .below, l .1 .within))
+          (t ∙ w .0 .taken)
+          (c .better-of .ensures),
     ))
     (λ w. rw (w .1, w .2) (l .0, runs-same (negativeAt e) (sizeAt e) (l .1) h (t ∙ w .0 .left) (c .better-of .ensures)))
     (c .before .if1 .came)
@@ -75,8 +77,10 @@ same-length c = search needs
 returns : tie.Need-returns Inv-loop μ-loop
 returns c =
     let e = c .before .before .before .before .args .errors .now in
-    let l = c .before .loop .inv in
-    (omega (arith, l .1 .below, l .1 .within), runs-end (negativeAt e) (sizeAt e) (l .1) (c .loop-test .left) (omega (arith, l .0, l .1 .below, l .1 .within)))
+    let l = c .before .loop .inv in (
+      omega (arith, l .1 .below, l .1 .within),
+      runs-end (negativeAt e) (sizeAt e) (l .1) (c .loop-test .left) (omega (arith, l .0, l .1 .below, l .1 .within)),
+    )
 
 pub keep-runs-spec : {M : Type 1} → statement M
 keep-runs-spec =

@@ -22,10 +22,15 @@ returns-2 : tie.Need-returns-2
 unfolding pruneFor
 returns-2 c =
     fills-none
-    (rw (sym (c .before .before .before .is-sized .ensures) ∙ not-false _ (c .before .before .if1 .left), sym (c .before .all-finite .ensures) ∙ not-true _ (c .if2 .taken)))
+    (rw (
+      sym (c .before .before .before .is-sized .ensures) ∙ not-false _ (c .before .before .if1 .left),
+      sym (c .before .all-finite .ensures) ∙ not-true _ (c .if2 .taken),
+    ))
 
 prune-finite-requires : tie.Need-prune-finite-requires
-prune-finite-requires c κs = fitting _ _ _ (sym (c .before .before .before .before .is-sized .ensures) ∙ not-false _ (c .before .before .before .if1 .left))
+prune-finite-requires c κs =
+    let s = c .before .before .before in
+    fitting _ _ _ (sym (s .before .is-sized .ensures) ∙ not-false _ (s .if1 .left))
 
 same-length : tie.Need-same-length
 same-length c = search needs
@@ -33,9 +38,10 @@ same-length c = search needs
 returns-3 : tie.Need-returns-3
 unfolding pruneFor
 returns-3 c =
+    let s = c .before .before .before .before in
     rw (
-      sym (c .before .before .before .before .before .before .before .is-sized .ensures) ∙ not-false _ (c .before .before .before .before .before .before .if1 .left),
-      sym (c .before .before .before .before .before .all-finite .ensures) ∙ not-false _ (c .before .before .before .before .if2 .left),
+      sym (s .before .before .before .is-sized .ensures) ∙ not-false _ (s .before .before .if1 .left),
+      sym (s .before .all-finite .ensures) ∙ not-false _ (s .if2 .left),
     )
     (c .before .before .prune-finite .ensures)
 

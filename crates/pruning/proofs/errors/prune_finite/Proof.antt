@@ -58,7 +58,10 @@ returns-2 c =
     let k = c .before .before .before .before .before .before .before .before .before .before .keep-runs in
     let f : k .result ≤ length (k .last .1 .0) = omega arith in
     let u = c .before .before .before .before .before .before .cut-to .last .1 .0 in
-    fills (take (a .n) u) (kept-are (negativeAt e) (sizeAt e) (a .n) (k .result) (k .last .1 .0) (placesOf e) f (k .ensures .1) (c .before .before .before .before .before .before .before .before .if1 .left) (c .before .before .before .before .before .before .cut-to .ensures))
+    fills (take (a .n) u)
+    (kept-are (negativeAt e) (sizeAt e) (a .n) (k .result) (k .last .1 .0) (placesOf e) f (k .ensures .1)
+    (c .before .before .before .before .before .before .before .before .if1 .left)
+    (c .before .before .before .before .before .before .cut-to .ensures))
     (length-take-le (a .n) u (omega arith))
     (c .before .before .copy-places .ensures)
 
