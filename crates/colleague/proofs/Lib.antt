@@ -1,0 +1,3 @@
+pub mod BuiltLaws
+pub mod BalanceLaws
+pub mod AnswerLaws

@@ -1,0 +1,63 @@
+-- `colleague::balance::raise` meets its contract. Assumes nothing.
+use mathlib.Core.Path.{_≡_, refl, sym, _∙_}
+use native.Mathlib.Omega.{arith}
+use borrow.Author.Tests.{not-true, not-false}
+use Rattle.colleague.specs.Balance.{raised}
+use Rattle.colleague.proofs.BalanceLaws.{raise-steps, steps-more, steps-end, steps-none}
+use borrow.Author.Needs.{needs}
+use Rattle.colleague.proofs.balance.raise.Statement.{statement}
+use Rattle.colleague.proofs.balance.raise.Tie as tie
+
+abbrev Inv-loop : tie.InvT-loop
+Inv-loop half factor₀ column₀ left₀ factor column left =
+    raised left half (record { factor = factor; column = column }) ≡ raised 1023 half (record { factor = factor₀; column = column₀ })
+
+abbrev μ-loop : tie.MeasureT-loop
+μ-loop half factor₀ column₀ left₀ factor column left = left
+
+loop-holds : tie.Need-loop-holds Inv-loop μ-loop
+loop-holds c = refl
+
+is-normal-requires : tie.Need-is-normal-requires Inv-loop μ-loop
+is-normal-requires c κs = search needs
+
+returns : tie.Need-returns Inv-loop μ-loop
+returns c =
+    let k = c .before .before .before .loop in
+    steps-end (raise-steps _) (k .left) _ _ (k .inv) (omega arith) (rw (sym (c .before .is-normal .ensures) ∙ not-true _ (c .if1 .taken)))
+
+returns-2 : tie.Need-returns-2 Inv-loop μ-loop
+returns-2 c =
+    let k = c .before .before .before .before .loop in
+    steps-end (raise-steps _) (k .left) _ _ (k .inv) (omega arith)
+    (rw (sym (c .before .before .is-normal .ensures) ∙ not-false _ (c .before .if1 .left)) (not-true _ (c .if2 .taken)))
+
+sub-left : tie.Need-sub-left Inv-loop μ-loop
+sub-left c = search needs
+
+loop-less : tie.Need-loop-less Inv-loop μ-loop
+loop-less c = search needs
+
+loop-again : tie.Need-loop-again Inv-loop μ-loop
+loop-again c =
+    let k = c .before .before .before .before .loop in
+    steps-more (raise-steps _) (k .left) _ _ (k .inv) (omega arith)
+    (rw (sym (c .before .before .is-normal .ensures) ∙ not-false _ (c .before .if1 .left)) (not-false _ (c .if2 .left)))
+
+returns-3 : tie.Need-returns-3 Inv-loop μ-loop
+returns-3 c = steps-none (raise-steps _) (c .before .loop .left) _ _ (c .before .loop .inv) (omega arith)
+
+pub raise-spec : {M : Type 1} → statement M
+raise-spec =
+    tie.close
+    (tie.spec
+    Inv-loop
+    μ-loop
+    loop-holds
+    is-normal-requires
+    returns
+    returns-2
+    sub-left
+    loop-less
+    loop-again
+    returns-3)

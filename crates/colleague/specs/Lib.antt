@@ -1,0 +1,4 @@
+pub mod Matrix
+pub mod Built
+pub mod Balance
+pub mod Answer
