@@ -1,5 +1,5 @@
 -- The laws of balancing: the two scaling loops, what is done with a row, a pass and the passes. Assumes nothing.
-use Prim.Native.Nat.{ℕ, zero, suc, _+_, _-_, _<_, _≤_}
+use Prim.Native.Nat.{ℕ, suc, _+_, _-_, _<_, _≤_}
 use mathlib.Core.Path.{_≡_, refl, ap, sym, _∙_}
 use mathlib.Core.Bool.{Bool, true, false, cond, not, _&&_}
 use native.Mathlib.Numerals.{add-one}
@@ -29,17 +29,11 @@ module _ {f : ℕ → Scale → Scale} {test : Scale → Bool} {step : Scale →
   pub steps-none : k ≤ 0 → s ≡ r
   steps-none h = let z : k ≡ 0 = omega arith in rw (z, w .none s) at g
 
-abbrev pub mayRaise : Float → Scale → Bool
-mayRaise h s = normal (s .column) && le (s .column) h
-
-abbrev pub mayLower : Float → Scale → Bool
-mayLower h s = normal (s .column) && lt h (s .column)
-
-pub raise-steps : (h : Float) → Steps (λ k. raised k h) (mayRaise h) (λ s. record { factor = s .factor ⊗ two; column = s .column ⊗ four })
+pub raise-steps : (h : Float) → Steps (λ k. raised k h) (λ s. normal (s .column) && le (s .column) h) (λ s. record { factor = s .factor ⊗ two; column = s .column ⊗ four })
 unfolding raised
 raise-steps h = record { none = λ s. refl; some = λ k s. refl }
 
-pub lower-steps : (h : Float) → Steps (λ k. lowered k h) (mayLower h) (λ s. record { factor = s .factor ⊘ two; column = s .column ⊘ four })
+pub lower-steps : (h : Float) → Steps (λ k. lowered k h) (λ s. normal (s .column) && lt h (s .column)) (λ s. record { factor = s .factor ⊘ two; column = s .column ⊘ four })
 unfolding lowered
 lower-steps h = record { none = λ s. refl; some = λ k s. refl }
 
@@ -82,7 +76,7 @@ module _ (n j : ℕ) (a : Matrix) (m : Bool) (r : Pass) (some : j < n) where
 
   -- the step t was taken, and left b
   pub pass-by : (t : Step) (b : Matrix) → t ≡ stepOf a n j → b ≡ stepped a n j → passFrom (n - j) n j a m ≡ r
-    → passBy t m b (passFrom (n - (j + 1)) n (j + 1) b) ≡ r
+      → passBy t m b (passFrom (n - (j + 1)) n (j + 1) b) ≡ r
   pass-by t b e f g =
       ap (λ z. passBy z m b (passFrom (n - (j + 1)) n (j + 1) b)) e
       ∙ ap (λ z. passBy (stepOf a n j) m z (passFrom (n - (j + 1)) n (j + 1) z)) f

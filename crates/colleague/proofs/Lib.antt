@@ -1,3 +1,4 @@
 pub mod BuiltLaws
 pub mod BalanceLaws
 pub mod AnswerLaws
+pub mod Given

@@ -1,6 +1,6 @@
 -- The leaf: from the derivative's coefficients to the balanced matrix and the pass count.
-use Prim.Native.Nat.{ℕ, suc, _-_}
-use mathlib.Core.Bool.{Bool, _&&_, cond}
+use Prim.Native.Nat.{ℕ, _-_}
+use mathlib.Core.Bool.{_&&_, cond}
 use mathlib.Core.List.{List, map}
 use lib.Dec.{leb, eqb}
 use lib.ListN.{length}
@@ -14,7 +14,7 @@ use Rattle.colleague.specs.declared.Colleague.{Colleague}
 use Rattle.colleague.specs.declared.Answer.{Answer}
 use Rattle.colleague.specs.Matrix.{Matrix, zeros, entriesFinite}
 use Rattle.colleague.specs.Built.{withoutZeros, builtOf}
-use Rattle.colleague.specs.Balance.{Balanced, balancedOf}
+use Rattle.colleague.specs.Balance.{balancedOf}
 
 abbrev pub mostCoefficients : ℕ
 mostCoefficients = 16
@@ -29,6 +29,7 @@ shown a s passes = record { rows = map rowRecord a; size = s; passes = passes }
 abbrev pub noRows : Colleague
 noRows = shown zeros 0 0
 
+-- what is answered where a refusal is given
 abbrev pub refusedBy : Refusal → Answer
 refusedBy why = record { matrix = noRows; verdict = verdict.Refused why }
 

@@ -106,7 +106,7 @@ balancedFrom (suc k) made n a =
 abbrev pub balancedOf : Matrix → ℕ → Outcome Balanced
 balancedOf a n = balancedFrom 64 0 n a
 
--- of balancing that has left a
+-- what balancing gives, of its answer and the matrix a that it leaves; on a refusal the matrix is not kept
 abbrev pub passesOf : Passes → Matrix → Outcome Balanced
 passesOf (Made p) a = gave (record { matrix = a; passes = p })
 passesOf Over a = refused 11

@@ -1,12 +1,20 @@
 ghost use mathlib.Core.Path.{_≡_};
 ghost use Prim.Native.Nat.{_<_, _≤_};
-ghost use Rattle.colleague.specs.Balance.{rowNorm, columnNorm, raised, lowered, scaleOf, scaledBy, stepOf, stepped, passOf, balancedOf, passesOf};
+ghost use mathlib.Core.Bool.{_&&_};
+ghost use lib.Ieee.{le, lt};
+ghost use Rattle.numbers.specs.Floats.{normal};
+ghost use Rattle.colleague.specs.Balance.{rowNorm, columnNorm, raised, lowered, scaledBy, stepOf, stepped, passOf, balancedOf, passesOf};
 use crate::Colleague;
 
 // The factor of a row and column, and the column's norm times its square.
 pub struct Scale {
     pub factor: f64,
     pub column: f64,
+}
+
+impl Scale {
+    // As many steps as each of the two scaling loops may make.
+    pub const STEPS: u64 = 1023;
 }
 
 // What is done with a row: nothing, scaled, or balancing ended because the norm is no normal number.
@@ -58,62 +66,56 @@ fn column_norm(a: &[[f64; 15]; 15], n: usize, j: usize) -> f64
     norm
 }
 
+fn may_raise(s: Scale, half: f64) -> bool
+    ensures { λ r. ⌜ r ≡ (normal (s .column) && le (s .column) half) ⌝ }
+{
+    if numbers::is_normal(s.column) {
+        s.column <= half
+    } else {
+        false
+    }
+}
+
 fn raise(s: Scale, half: f64) -> Scale
     ensures { λ r. ⌜ r ≡ raised 1023 half s ⌝ }
 {
-    let mut factor = s.factor;
-    let mut column = s.column;
-    let mut left: u64 = 1023;
+    let mut t = s;
+    let mut left = Scale::STEPS;
     while 0 < left {
-        if !numbers::is_normal(column) {
-            return Scale {
-                factor: factor,
-                column: column,
-            };
+        if !may_raise(t, half) {
+            return t;
         }
-        if !(column <= half) {
-            return Scale {
-                factor: factor,
-                column: column,
-            };
-        }
-        factor = factor * 2.0;
-        column = column * 4.0;
+        t.factor = t.factor * 2.0;
+        t.column = t.column * 4.0;
         left -= 1;
     }
-    Scale {
-        factor: factor,
-        column: column,
+    t
+}
+
+fn may_lower(s: Scale, twice: f64) -> bool
+    ensures { λ r. ⌜ r ≡ (normal (s .column) && lt twice (s .column)) ⌝ }
+{
+    if numbers::is_normal(s.column) {
+        s.column > twice
+    } else {
+        false
     }
 }
 
 fn lower(s: Scale, twice: f64) -> Scale
     ensures { λ r. ⌜ r ≡ lowered 1023 twice s ⌝ }
 {
-    let mut factor = s.factor;
-    let mut column = s.column;
-    let mut left: u64 = 1023;
+    let mut t = s;
+    let mut left = Scale::STEPS;
     while 0 < left {
-        if !numbers::is_normal(column) {
-            return Scale {
-                factor: factor,
-                column: column,
-            };
+        if !may_lower(t, twice) {
+            return t;
         }
-        if !(column > twice) {
-            return Scale {
-                factor: factor,
-                column: column,
-            };
-        }
-        factor = factor / 2.0;
-        column = column / 4.0;
+        t.factor = t.factor / 2.0;
+        t.column = t.column / 4.0;
         left -= 1;
     }
-    Scale {
-        factor: factor,
-        column: column,
-    }
+    t
 }
 
 // Row j divided and column j multiplied by f, off the diagonal.

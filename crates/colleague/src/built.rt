@@ -7,12 +7,10 @@ ghost use Rattle.colleague.specs.Built.{withoutZeros, rowOf, builtOf};
 pub(crate) fn without_zeros(ck: &[f64]) -> usize
     ensures { λ r. ⌜ r ≡ withoutZeros (now (ck .entry)) (length (now (ck .entry))) ⌝ }
 {
-    let all = ck.len();
-    let mut n = all;
+    let mut n = ck.len();
     while 0 < n {
-        let last = n - 1;
-        if ck[last] == 0.0 {
-            n = last;
+        if ck[n - 1] == 0.0 {
+            n -= 1;
         } else {
             return n;
         }

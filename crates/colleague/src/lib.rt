@@ -4,6 +4,7 @@ ghost use Prim.Native.Nat.{_<_, _≤_};
 ghost use lib.ListN.{length};
 ghost use Rattle.numbers.specs.Refusals.{Answers};
 ghost use Rattle.colleague.specs.Answer.{noRows, refusedBy, balancedFor, colleagueFor};
+
 mod balance;
 mod built;
 mod matrix;
@@ -85,7 +86,7 @@ pub fn colleague_matrix(ck: &[f64]) -> Answer
     if n < 1 {
         return refused(Refusal::Derivative);
     }
-    // The Rust panics at one coefficient.
+    // Here the Rust panics; document 01 gives a matrix of no rows.
     if n == 1 {
         return Answer {
             matrix: matrix::no_rows(),

@@ -18,6 +18,7 @@ pub(crate) fn are_entries_finite(a: &[[f64; 15]; 15]) -> bool
     true
 }
 
+// By value: the length of a lent array is no fact that a proof is handed.
 fn rows_of(a: [[f64; 15]; 15]) -> [Row; 15]
     ensures { λ r. ⌜ r ≡ map rowRecord a ⌝ }
 {

@@ -24,11 +24,15 @@ balance-pass-requires c κs = search needs
 add-made : tie.Need-add-made Inv-loop μ-loop
 add-made c = search needs
 
+-- the pass that was made
+abbrev passed : tie.After-balance-pass Inv-loop μ-loop → Pass
+passed c = record { matrix = c .balance-pass .last .0; moved = c .balance-pass .result .moved; stopped = c .balance-pass .result .stopped }
+
 returns : tie.Need-returns Inv-loop μ-loop
 returns c =
     let d = c .before in
     let k = d .before .before .before .loop in
-    let p : Pass = record { matrix = d .balance-pass .last .0; moved = d .balance-pass .result .moved; stopped = d .balance-pass .result .stopped } in
+    let p = passed d in
     from-last (64 - k .made) (k .made) (d .before .before .before .before .args .n) (k .a) _ p (d .balance-pass .ensures) (omega arith) (k .inv .1)
     (last-stopped (p .moved) (p .stopped) (c .if1 .taken))
 
@@ -36,7 +40,7 @@ returns-2 : tie.Need-returns-2 Inv-loop μ-loop
 returns-2 c =
     let d = c .before .before .before in
     let k = d .before .before .before .loop in
-    let p : Pass = record { matrix = d .balance-pass .last .0; moved = d .balance-pass .result .moved; stopped = d .balance-pass .result .stopped } in
+    let p = passed d in
     from-last (64 - k .made) (k .made) (d .before .before .before .before .args .n) (k .a) _ p (d .balance-pass .ensures) (omega arith) (k .inv .1)
     (last-still (p .moved) (p .stopped) (not-true (p .moved) (c .if2 .taken)))
 
@@ -47,12 +51,12 @@ loop-again : tie.Need-loop-again Inv-loop μ-loop
 loop-again c =
     let d = c .before .before .before in
     let k = d .before .before .before .loop in
-    let p : Pass = record { matrix = d .balance-pass .last .0; moved = d .balance-pass .result .moved; stopped = d .balance-pass .result .stopped } in
+    let p = passed d in
     let e : 64 - (k .made + 1) ≡ 64 - k .made - 1 = omega arith in (
       omega arith,
       rw e
-      (from-more (64 - k .made) (k .made) (d .before .before .before .before .args .n) (k .a) _ p (d .balance-pass .ensures) (omega arith) (k .inv .1)
-      (last-not (p .moved) (p .stopped) (not-false (p .moved) (c .if2 .left)) (c .before .before .if1 .left))),
+          (from-more (64 - k .made) (k .made) (d .before .before .before .before .args .n) (k .a) _ p (d .balance-pass .ensures) (omega arith) (k .inv .1)
+          (last-not (p .moved) (p .stopped) (not-false (p .moved) (c .if2 .left)) (c .before .before .if1 .left))),
     )
 
 returns-3 : tie.Need-returns-3 Inv-loop μ-loop

@@ -32,7 +32,7 @@ enum-told-3 c = search needs
 
 -- what the row did to the pass
 did : (c : tie.After-balance-row Inv-loop μ-loop) → let g = c .before .before .before .before .args in let k = c .before .before .before .loop in
-  passBy (c .balance-row .result) (k .moved) (c .balance-row .last .0) (passFrom (g .n - (k .j + 1)) (g .n) (k .j + 1) (c .balance-row .last .0)) ≡ passOf (g .a .now) (g .n)
+    passBy (c .balance-row .result) (k .moved) (c .balance-row .last .0) (passFrom (g .n - (k .j + 1)) (g .n) (k .j + 1) (c .balance-row .last .0)) ≡ passOf (g .a .now) (g .n)
 did c =
     let g = c .before .before .before .before .args in
     let k = c .before .before .before .loop in
@@ -48,11 +48,10 @@ loop-less : tie.Need-loop-less Inv-loop μ-loop
 loop-less c = search needs
 
 loop-again : tie.Need-loop-again Inv-loop μ-loop
-loop-again c =
-    (
-      omega arith,
-      ⊎-elim (λ w. rw (w .2) (rw (w .1 .given .1) at (did (c .before)))) (λ w. rw (w .2) (rw (w .1 .given .1) at (did (c .before)))) (c .match .came),
-    )
+loop-again c = (
+  omega arith,
+  ⊎-elim (λ w. rw (w .2) (rw (w .1 .given .1) at (did (c .before)))) (λ w. rw (w .2) (rw (w .1 .given .1) at (did (c .before)))) (c .match .came),
+)
 
 returns-2 : tie.Need-returns-2 Inv-loop μ-loop
 returns-2 c =

@@ -59,8 +59,8 @@ returns-4 c =
     let l = d .before .before .before in
     let f = l .before .before in
     let o =
-      outcome (f .before .before) _ (scale-is l) Moved
-      (step-by _ _ _ (f .before .if1 .left) (f .if2 .left) true (sym (d .before .before .is-normal .ensures) ∙ not-false _ (d .before .if3 .left)) (d .if4 .taken)) in
+    outcome (f .before .before) _ (scale-is l) Moved
+    (step-by _ _ _ (f .before .if1 .left) (f .if2 .left) true (sym (d .before .before .is-normal .ensures) ∙ not-false _ (d .before .if3 .left)) (d .if4 .taken)) in
     (o .0, c .scale-by .ensures ∙ o .1)
 
 returns-5 : tie.Need-returns-5

@@ -9,28 +9,21 @@ use Rattle.colleague.proofs.balance.lower.Statement.{statement}
 use Rattle.colleague.proofs.balance.lower.Tie as tie
 
 abbrev Inv-loop : tie.InvT-loop
-Inv-loop twice factor₀ column₀ left₀ factor column left =
-    lowered left twice (record { factor = factor; column = column }) ≡ lowered 1023 twice (record { factor = factor₀; column = column₀ })
+Inv-loop twice t₀ left₀ t left = lowered left twice t ≡ lowered 1023 twice t₀
 
 abbrev μ-loop : tie.MeasureT-loop
-μ-loop twice factor₀ column₀ left₀ factor column left = left
+μ-loop twice t₀ left₀ t left = left
 
 loop-holds : tie.Need-loop-holds Inv-loop μ-loop
 loop-holds c = refl
 
-is-normal-requires : tie.Need-is-normal-requires Inv-loop μ-loop
-is-normal-requires c κs = search needs
+may-lower-requires : tie.Need-may-lower-requires Inv-loop μ-loop
+may-lower-requires c κs = search needs
 
 returns : tie.Need-returns Inv-loop μ-loop
 returns c =
     let k = c .before .before .before .loop in
-    steps-end (lower-steps _) (k .left) _ _ (k .inv) (omega arith) (rw (sym (c .before .is-normal .ensures) ∙ not-true _ (c .if1 .taken)))
-
-returns-2 : tie.Need-returns-2 Inv-loop μ-loop
-returns-2 c =
-    let k = c .before .before .before .before .loop in
-    steps-end (lower-steps _) (k .left) _ _ (k .inv) (omega arith)
-    (rw (sym (c .before .before .is-normal .ensures) ∙ not-false _ (c .before .if1 .left)) (not-true _ (c .if2 .taken)))
+    steps-end (lower-steps _) (k .left) _ _ (k .inv) (omega arith) (sym (c .before .may-lower .ensures) ∙ not-true _ (c .if1 .taken))
 
 sub-left : tie.Need-sub-left Inv-loop μ-loop
 sub-left c = search needs
@@ -40,12 +33,12 @@ loop-less c = search needs
 
 loop-again : tie.Need-loop-again Inv-loop μ-loop
 loop-again c =
-    let k = c .before .before .before .before .loop in
-    steps-more (lower-steps _) (k .left) _ _ (k .inv) (omega arith)
-    (rw (sym (c .before .before .is-normal .ensures) ∙ not-false _ (c .before .if1 .left)) (not-false _ (c .if2 .left)))
+    let b = c .before .before .before in
+    let k = b .before .before .loop in
+    steps-more (lower-steps _) (k .left) _ _ (k .inv) (omega arith) (sym (b .may-lower .ensures) ∙ not-false _ (c .before .before .if1 .left))
 
-returns-3 : tie.Need-returns-3 Inv-loop μ-loop
-returns-3 c = steps-none (lower-steps _) (c .before .loop .left) _ _ (c .before .loop .inv) (omega arith)
+returns-2 : tie.Need-returns-2 Inv-loop μ-loop
+returns-2 c = steps-none (lower-steps _) (c .before .loop .left) _ _ (c .before .loop .inv) (omega arith)
 
 pub lower-spec : {M : Type 1} → statement M
 lower-spec =
@@ -54,10 +47,9 @@ lower-spec =
     Inv-loop
     μ-loop
     loop-holds
-    is-normal-requires
+    may-lower-requires
     returns
-    returns-2
     sub-left
     loop-less
     loop-again
-    returns-3)
+    returns-2)

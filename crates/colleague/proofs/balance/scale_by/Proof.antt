@@ -79,7 +79,7 @@ loop-again c =
     let v = c .before .before .loop .inv in (
       v .0,
       next (v .1) (c .before .loop-test .taken)
-      (⊎-elim (λ w. rw (ne-eqb _ _ (w .0 .taken), ← v .0) (w .3)) (λ w. rw (eq-eqb _ _ (w .0 .left)) (w .1)) (c .if1 .came)),
+          (⊎-elim (λ w. rw (ne-eqb _ _ (w .0 .taken), ← v .0) (w .3)) (λ w. rw (eq-eqb _ _ (w .0 .left)) (w .1)) (c .if1 .came)),
     )
 
 returns : tie.Need-returns Inv-loop μ-loop

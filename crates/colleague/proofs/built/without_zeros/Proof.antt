@@ -10,22 +10,25 @@ use Rattle.colleague.proofs.built.without_zeros.Statement.{statement}
 use Rattle.colleague.proofs.built.without_zeros.Tie as tie
 
 abbrev Inv-loop : tie.InvT-loop
-Inv-loop ck all n₀ n = (n ≤ length ck) × (withoutZeros ck n ≡ withoutZeros ck (length ck))
+Inv-loop ck n₀ n = (n ≤ length ck) × (withoutZeros ck n ≡ withoutZeros ck (length ck))
 
 abbrev μ-loop : tie.MeasureT-loop
-μ-loop ck all n₀ n = n
+μ-loop ck n₀ n = n
 
 loop-holds : tie.Need-loop-holds Inv-loop μ-loop
 loop-holds c = (omega arith, refl)
 
-sub-last : tie.Need-sub-last Inv-loop μ-loop
-sub-last c = search needs
+sub-if1 : tie.Need-sub-if1 Inv-loop μ-loop
+sub-if1 c = search needs
 
 mul-if1 : tie.Need-mul-if1 Inv-loop μ-loop
 mul-if1 c = search needs
 
 shared-slice-read-if1 : tie.Need-shared-slice-read-if1 Inv-loop μ-loop
 shared-slice-read-if1 c = search needs
+
+sub-n : tie.Need-sub-n Inv-loop μ-loop
+sub-n c = search needs
 
 loop-less : tie.Need-loop-less Inv-loop μ-loop
 loop-less c = search needs
@@ -50,9 +53,10 @@ without-zeros-spec =
     Inv-loop
     μ-loop
     loop-holds
-    sub-last
+    sub-if1
     mul-if1
     shared-slice-read-if1
+    sub-n
     loop-less
     loop-again
     returns
