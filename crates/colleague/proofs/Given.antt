@@ -12,9 +12,9 @@ use lib.Seq.{getD-set-same, getD-set-other}
 use lib.Ieee.{Float, ofBits}
 use Rattle.numbers.specs.Floats.{zero64, allFinite}
 use Rattle.numbers.specs.Loops.{until}
-use Rattle.numbers.specs.Outcome.{gave, unless}
+use Rattle.numbers.specs.Outcome.{Outcome, gave, bind, unless}
 use Rattle.numbers.proofs.LoopLaws.{run-keeps, every-at}
-use Rattle.numbers.proofs.OutcomeLaws.{unless-held, unless-given, bind-given}
+use Rattle.numbers.proofs.Given.{gave-same, unless-given, bind-given}
 use Rattle.numbers.proofs.Order.{and-2}
 use Rattle.colleague.specs.declared.Colleague.{Colleague}
 use Rattle.colleague.specs.declared.balance.Step.{Step}
@@ -135,28 +135,24 @@ none-finite = refl
 
 balanced-bounded : (c : List Float) (s : ℕ) (m : Colleague) → 1 ≤ s → s ≤ 15 → balancedFor c s ≡ gave m → Bounded m
 balanced-bounded c s m l h e =
-    bind-given (Bounded m) (balancedOf (builtOf c s) s)
-    (λ b. unless (entriesFinite (b .matrix)) 9 (gave (shown (b .matrix) s (b .passes)))) m
-    (unless-given (entriesFinite (builtOf c s)) 9 _ m e)
-    (λ b g k.
-    let w = balanced-ends 64 0 s (builtOf c s) b (built-square c s) g in
-    let f = unless-held (entriesFinite (b .matrix)) 9 (gave (shown (b .matrix) s (b .passes))) m k in
-    let z : shown (b .matrix) s (b .passes) ≡ m = is-shown b (unless-given (entriesFinite (b .matrix)) 9 (gave (shown (b .matrix) s (b .passes))) m k) in
-    rw (← z)
-    (shown-bounded (b .matrix) s (b .passes) (w .square) f h (omega (arith, w .most)) (λ o. omega arith) (λ o. omega (arith, w .least))))
-  where
-    is-shown : (b : Balanced) → gave (shown (b .matrix) s (b .passes)) ≡ gave m → shown (b .matrix) s (b .passes) ≡ m
-    is-shown b e = cc
+    let after : Balanced → Outcome Colleague = λ b. unless (entriesFinite (b .matrix)) 9 (gave (shown (b .matrix) s (b .passes))) in
+    let g = bind-given (balancedOf (builtOf c s) s) after (unless-given (entriesFinite (builtOf c s)) 9 (bind (balancedOf (builtOf c s) s) after) e .rest) in
+    let b = g .value in
+    let k = unless-given (entriesFinite (b .matrix)) 9 (gave (shown (b .matrix) s (b .passes))) (g .rest) in
+    let w = balanced-ends 64 0 s (builtOf c s) b (built-square c s) (g .given) in
+    rw (← gave-same (k .rest))
+    (shown-bounded (b .matrix) s (b .passes) (w .square) (k .test) h (omega (arith, w .most)) (λ o. omega arith) (λ o. omega (arith, w .least)))
 
 pub given-bounded : (c : List Float) (m : Colleague) → colleagueFor c ≡ gave m → Bounded m
 unfolding colleagueFor
 given-bounded c m e =
     let n = withoutZeros c (length c) in
     let sized = leb 1 (length c) && leb (length c) mostCoefficients in
-    let d = unless-given sized 15 _ m e in
-    let f = unless-given (allFinite c) 9 _ m d in
-    pick n (leb-true (length c) 16 (and-2 (leb 1 (length c)) (leb (length c) 16) (unless-held sized 15 _ m e))) (zeros-within c (length c))
-    (leb-true 1 n (unless-held (leb 1 n) 10 _ m f)) (eqb n 1) refl (unless-given (leb 1 n) 10 _ m f)
+    let last = cond (eqb n 1) (gave noRows) (balancedFor c (n - 1)) in
+    let d = unless-given sized 15 (unless (allFinite c) 9 (unless (leb 1 n) 10 last)) e in
+    let f = unless-given (leb 1 n) 10 last (unless-given (allFinite c) 9 (unless (leb 1 n) 10 last) (d .rest) .rest) in
+    pick n (leb-true (length c) 16 (and-2 (leb 1 (length c)) (leb (length c) 16) (d .test))) (zeros-within c (length c))
+    (leb-true 1 n (f .test)) (eqb n 1) refl (f .rest)
   where
     pick : (n : ℕ) → length c ≤ 16 → n ≤ length c → 1 ≤ n → (t : Bool) → eqb n 1 ≡ t → cond t (gave noRows) (balancedFor c (n - 1)) ≡ gave m → Bounded m
     pick n l w h true k e =

@@ -28,19 +28,6 @@ bind-next k e h = rw (← e) h
 pub bind-stop : {A B : Type 0} {n : ℕ} {o : Outcome A} (k : A → Outcome B) → refused n ≡ o → refused n ≡ bind o k
 bind-stop k e = rw (← e)
 
--- ---- what an outcome that was given tells of the tests and the answers on the way
-pub unless-held : {A : Type 0} (t : Bool) (n : ℕ) (o : Outcome A) (a : A) → unless t n o ≡ gave a → t ≡ true
-unless-held true n o a e = refl
-unless-held false n o a e = absurd (let z : _≡_ {A = ℕ} 0 1 = cc in omega arith)
-
-pub unless-given : {A : Type 0} (t : Bool) (n : ℕ) (o : Outcome A) (a : A) → unless t n o ≡ gave a → o ≡ gave a
-unless-given true n o a e = e
-unless-given false n o a e = absurd (let z : _≡_ {A = ℕ} 0 1 = cc in omega arith)
-
-pub bind-given : {A B : Type 0} (P : Type 0) (o : Outcome A) (k : A → Outcome B) (b : B) → bind o k ≡ gave b → ((a : A) → o ≡ gave a → k a ≡ gave b → P) → P
-bind-given P (refused n) k b e f = absurd (let z : _≡_ {A = ℕ} 0 1 = cc in omega arith)
-bind-given P (gave a) k b e f = f a refl e
-
 -- ---- what a leaf that writes a list returns: a refusal with the lent list as it was, or the list at its front
 pub fills-none : {A : Type 0} {o : Outcome (List A)} {n : ℕ} {q : Refusal} {w : List A} → refused (refusalNumber q) ≡ o → Filled o n (verdict.Refused q) w w
 fills-none {A} {o} {n} {q} {w} e = record { is = e; out = rw (← e) }
