@@ -1,9 +1,10 @@
--- The cases of document 01 for pruning, errors and n to kept places, all of them by one statement over their list. Assumes nothing.
+-- Document 01's cases of pruning hold, all of the list; each is computed. Assumes nothing.
 use Prim.Native.Nat.{ℕ}
-use mathlib.Core.Path.{_≡_, refl}
+use mathlib.Core.Path.{refl}
 use mathlib.Core.List.{List, [], _∷_}
 use lib.IntN.{pos}
 use lib.Ieee.{Float, binary64, ofInt, neg, lt, le, eq, ofBits}
+use Rattle.numbers.specs.Cases.{Case, Agree, none, also}
 use Rattle.numbers.specs.Floats.{allFinite}
 use Rattle.numbers.specs.Loops.{tab}
 use Rattle.numbers.specs.Outcome.{Outcome, refused, gave}
@@ -17,28 +18,22 @@ p n = ofInt binary64 (pos n)
 abbrev m : ℕ → Float
 m n = neg (p n)
 
-pub record Case : Type 0 where
-  pub errors : List Float
-  pub n : ℕ
-  pub outcome : Outcome (List ℕ)
+-- errors and n, to the outcome for an output with room enough
+abbrev case : List Float → ℕ → Outcome (List ℕ) → Case
+case e n o = record { Answer = Outcome (List ℕ); gives = pruneFor e n mostCandidates; says = o }
 
--- each is the outcome for an output with room enough
-unfoldable pub Hold : List Case → Type 0
-Hold [] = Unit {0}
-Hold (c ∷ cs) = (pruneFor (c .errors) (c .n) mostCandidates ≡ c .outcome) × Hold cs
-
-unfoldable pub cases : List Case
+abbrev pub cases : List Case
 cases =
-    record { errors = p 1 ∷ []; n = 0; outcome = gave [] }
-    ∷ record { errors = p 0 ∷ m 0 ∷ p 3 ∷ []; n = 1; outcome = gave (2 ∷ []) }
-    ∷ record { errors = p 2 ∷ p 2 ∷ m 1 ∷ []; n = 2; outcome = gave (0 ∷ 2 ∷ []) }
-    ∷ record { errors = p 3 ∷ m 1 ∷ p 3 ∷ []; n = 2; outcome = gave (0 ∷ 1 ∷ []) }
-    ∷ record { errors = p 1 ∷ m 1 ∷ p 2 ∷ []; n = 2; outcome = gave (1 ∷ 2 ∷ []) }
-    ∷ record { errors = p 10 ∷ m 1 ∷ p 5 ∷ m 6 ∷ []; n = 2; outcome = gave (2 ∷ 3 ∷ []) }
-    ∷ record { errors = p 4 ∷ p 5 ∷ p 6 ∷ []; n = 2; outcome = refused 13 }
-    ∷ record { errors = []; n = 0; outcome = refused 15 }
+    case (p 1 ∷ []) 0 (gave [])
+    ∷ case (p 0 ∷ m 0 ∷ p 3 ∷ []) 1 (gave (2 ∷ []))
+    ∷ case (p 2 ∷ p 2 ∷ m 1 ∷ []) 2 (gave (0 ∷ 2 ∷ []))
+    ∷ case (p 3 ∷ m 1 ∷ p 3 ∷ []) 2 (gave (0 ∷ 1 ∷ []))
+    ∷ case (p 1 ∷ m 1 ∷ p 2 ∷ []) 2 (gave (1 ∷ 2 ∷ []))
+    ∷ case (p 10 ∷ m 1 ∷ p 5 ∷ m 6 ∷ []) 2 (gave (2 ∷ 3 ∷ []))
+    ∷ case (p 4 ∷ p 5 ∷ p 6 ∷ []) 2 (refused 13)
+    ∷ case [] 0 (refused 15)
     ∷ []
 
-pub cases-hold : Hold cases
-unfolding Hold cases pruneFor keptPlaces prune runs runsFrom dropPair weakest weakestFrom withoutPairs lastFrom withoutEnd allFinite tab lt le eq ofBits ofInt neg
-cases-hold = (refl, (refl, (refl, (refl, (refl, (refl, (refl, (refl, tt))))))))
+pub starred : Agree cases
+unfolding pruneFor keptPlaces prune runs runsFrom dropPair weakest weakestFrom withoutPairs lastFrom withoutEnd allFinite tab lt le eq ofBits ofInt neg
+starred = also refl (also refl (also refl (also refl (also refl (also refl (also refl (also refl none)))))))

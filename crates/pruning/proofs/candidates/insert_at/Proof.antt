@@ -49,9 +49,12 @@ loop-again c =
     let l = c .before .before .before .before .before .before .before .before .before in
     let s = l .before .before .before .before .before in
     let p = c .before .before .before .before .before .before .raw-at2 in
-    let t = rw (l .before .of-word .ensures, c .before .before .before .before .before .of-word2 .ensures) at (c .before .before .before .before .if1 .taken) in
+    let h = c .before .before .before .before .before .before .before .before .loop-test .taken in
+    let t =
+    rw (l .before .of-word .ensures, c .before .before .before .before .before .of-word2 .ensures)
+    at (c .before .before .before .before .if1 .taken) in
     rw (c .before .before .put-raw .ensures)
-    (move-next (s .args .words .now) (s .args .i) (s .pre .inside) _ (l .loop .inv) (c .before .before .before .before .before .before .before .before .loop-test .taken) (p .ensures) t)
+    (move-next (s .args .words .now) (s .args .i) (s .pre .inside) _ (l .loop .inv) h (p .ensures) t)
 
 put-raw-requires-2 : tie.Need-put-raw-requires-2 Inv-loop μ-loop
 put-raw-requires-2 c κs =

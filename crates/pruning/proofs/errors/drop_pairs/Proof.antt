@@ -33,7 +33,7 @@ close-requires c κs =
     let l = c .before .before .before .before .loop in
     let s : l .k ≤ length (l .kept) = omega (arith, l .inv .0, l .inv .1) in
     let t : 2 ≤ l .k = omega (arith, l .inv .2 .even) in
-    (rw (c .before .weakest-pair .ensures) (pair-inside (negativeAt e) (sizeAt e) (l .k) (l .kept) s t), s)
+    (omega (arith, pair-inside (negativeAt e) (sizeAt e) (l .k) (l .kept) s t, c .before .weakest-pair .ensures), s)
 
 sub-k : tie.Need-sub-k Inv-loop μ-loop
 sub-k c = let l = c .before .before .before .before .before .before .before .loop .inv in omega (arith, l .2 .even)

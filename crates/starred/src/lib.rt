@@ -1,0 +1,1 @@
+// Document 01's starred cases, proved together: see proofs/Starred.antt. No code.
