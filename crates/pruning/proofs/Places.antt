@@ -12,11 +12,13 @@ use borrow.Author.Tests.{leb-true}
 use lib.Dec.{leb}
 use lib.ListN.{length}
 use lib.Ieee.{Float}
-use Rattle.numbers.specs.Outcome.{refused, gave}
+use Rattle.numbers.specs.Floats.{allFinite}
+use Rattle.numbers.specs.Outcome.{refused, gave, unless}
 use Rattle.numbers.specs.Loops.{tab}
 use Rattle.pruning.specs.Alternation.{Sub, done, skip, keep, Alternate, Alternating, RisingFrom}
-use Rattle.pruning.specs.Errors.{mostCandidates, negativeAt, sizeAt, placesOf, keptPlaces, sized, Fitting}
+use Rattle.pruning.specs.Errors.{mostCandidates, negativeAt, sizeAt, placesOf, keptPlaces, sized, pruneFor, Fitting}
 use Rattle.numbers.proofs.Order.{and-1, and-2}
+use Rattle.numbers.proofs.Given.{unless-given}
 use Rattle.pruning.proofs.Kept.{prune-gives, prune-refuses}
 
 lower : (k n : ℕ) (u : List ℕ) → RisingFrom (suc k) n u → RisingFrom k n u
@@ -52,6 +54,19 @@ module _ (e : List Float) (n : ℕ) where
   pub places-refused : keptPlaces e n ≡ refused 13 ↔ ((u : List ℕ) → Sub u (placesOf e) → Alternate (negativeAt e) u → length u ≡ n → ⊥)
   unfolding keptPlaces
   places-refused = prune-refuses (negativeAt e) (sizeAt e) n (placesOf e)
+
+-- ---- the leaf: within the limits and of finite errors it refuses with 13 exactly where no n of them, in order, alternate in sign;
+-- and what it gives are always n places, in order, whose errors alternate
+pub leaf-refused : (e : List Float) (n room : ℕ) → sized (length e) n room ≡ true → allFinite e ≡ true
+    → pruneFor e n room ≡ refused 13 ↔ ((u : List ℕ) → Sub u (placesOf e) → Alternate (negativeAt e) u → length u ≡ n → ⊥)
+unfolding pruneFor
+leaf-refused e n room s f = rw (s, f) (places-refused e n)
+
+pub leaf-gives : (e : List Float) (n room : ℕ) (u : List ℕ) → pruneFor e n room ≡ gave u → Alternating (negativeAt e) n u (placesOf e)
+unfolding pruneFor
+leaf-gives e n room u h =
+    let a = unless-given (sized (length e) n room) 15 (unless (allFinite e) 9 (keptPlaces e n)) h in
+    places-kept e n u (unless-given (allFinite e) 9 (keptPlaces e n) (a .rest) .rest)
 
 -- what `sized` lets through
 pub fitting : (count n room : ℕ) → sized count n room ≡ true → Fitting count n room
