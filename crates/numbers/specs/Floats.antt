@@ -42,6 +42,10 @@ normal x =
 abbrev pub lesser : Float → Float → Float
 lesser a b = cond (lt b a) b a
 
+-- 1 for a number that is not finite
+abbrev pub faultOf : Float → ℕ
+faultOf x = cond (finite x) 0 1
+
 unfoldable pub allFinite : List Float → Bool
 allFinite [] = true
 allFinite (x ∷ xs) = finite x && allFinite xs

@@ -1,29 +1,36 @@
--- `numbers::all_finite` meets its contract: what is left of the list decides at each turn. Assumes nothing.
-use Prim.Native.Nat.{_-_}
-use mathlib.Core.Path.{sym, _∙_}
+-- `numbers::all_finite` meets its contract: the faults counted and those to come are all. Assumes nothing.
+use Prim.Native.Nat.{_+_, _-_}
+use mathlib.Core.Path.{ap}
+use native.Mathlib.Omega.{arith}
+use lib.ListN.{length, getD}
+use lib.Ieee.{nan}
+use Rattle.numbers.proofs.FiniteLaws.{Counting, fault-most, count-start, count-next, count-end}
 use borrow.Author.Needs.{needs}
-use borrow.Author.Tests.{not-true, not-false}
-use lib.ListN.{length}
-use Rattle.numbers.proofs.FiniteLaws.{Left, left-start, left-stop, left-next, left-end}
 use Rattle.numbers.proofs.all_finite.Statement.{statement}
 use Rattle.numbers.proofs.all_finite.Tie as tie
 
 abbrev Inv-loop : tie.InvT-loop
-Inv-loop xs i₀ i = Left xs i
+Inv-loop xs faults₀ i₀ faults i = Counting xs i faults
 
 abbrev μ-loop : tie.MeasureT-loop
-μ-loop xs i₀ i = length xs - i
+μ-loop xs faults₀ i₀ faults i = length xs - i
 
 loop-holds : tie.Need-loop-holds Inv-loop μ-loop
-loop-holds c = left-start
+loop-holds c = count-start
 
-is-finite-at-requires : tie.Need-is-finite-at-requires Inv-loop μ-loop
-is-finite-at-requires c κs = search needs
+mul-fault : tie.Need-mul-fault Inv-loop μ-loop
+mul-fault c = search needs
 
-returns : tie.Need-returns Inv-loop μ-loop
-returns c =
-    left-stop (c .before .before .before .loop .inv) (c .before .before .loop-test .taken)
-    (sym (c .before .is-finite-at .ensures) ∙ not-true _ (c .if1 .taken))
+shared-slice-read-fault : tie.Need-shared-slice-read-fault Inv-loop μ-loop
+shared-slice-read-fault c = search needs
+
+fault-requires : tie.Need-fault-requires Inv-loop μ-loop
+fault-requires c κs = search needs
+
+add-faults : tie.Need-add-faults Inv-loop μ-loop
+add-faults c =
+    omega
+    (arith, c .before .before .before .loop .inv .few, fault-most (getD (c .before .before .before .before .before .args .xs .now) (c .before .before .before .loop .i) nan), c .fault .ensures)
 
 add-i : tie.Need-add-i Inv-loop μ-loop
 add-i c = search needs
@@ -32,14 +39,23 @@ loop-less : tie.Need-loop-less Inv-loop μ-loop
 loop-less c = search needs
 
 loop-again : tie.Need-loop-again Inv-loop μ-loop
-loop-again c =
-    left-next (c .before .before .before .loop .inv) (c .before .before .loop-test .taken)
-    (sym (c .before .is-finite-at .ensures) ∙ not-false _ (c .if1 .left))
+loop-again c = count-next (c .before .before .before .loop .inv) (c .before .before .loop-test .taken) (ap (λ z. c .before .before .before .loop .faults + z) (c .fault .ensures))
 
-returns-2 : tie.Need-returns-2 Inv-loop μ-loop
-returns-2 c = left-end (c .before .loop .inv) (c .loop-test .left)
+returns : tie.Need-returns Inv-loop μ-loop
+returns c = count-end (c .before .loop .inv) (c .loop-test .left)
 
 pub all-finite-spec : {M : Type 1} → statement M
 all-finite-spec =
     tie.close
-    (tie.spec Inv-loop μ-loop loop-holds is-finite-at-requires returns add-i loop-less loop-again returns-2)
+    (tie.spec
+    Inv-loop
+    μ-loop
+    loop-holds
+    mul-fault
+    shared-slice-read-fault
+    fault-requires
+    add-faults
+    add-i
+    loop-less
+    loop-again
+    returns)
