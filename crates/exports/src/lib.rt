@@ -1,10 +1,35 @@
-// The functions for C and whatever calls C. A refused call answers a NaN, as C's own acos does.
+// The functions for C and whatever calls C.
+//
+// An angle is answered as C's own library does it: a refused call answers a NaN. Every other leaf answers 0, or document 01's
+// number of the refusal, and writes its numbers to the front of `out`: a single number to its first place, and nothing where it
+// is refused. A slice is handed over as its address and its length.
 ghost use mathlib.Core.Path.{_≡_};
 ghost use Rattle.numbers.specs.Refusals.{scalarOf};
 ghost use Rattle.angles.specs.Turns.{cosineOf, sineOf};
 ghost use Rattle.angles.specs.Arccosine.{arccosineOf};
 ghost use Rattle.exports.specs.Answers.{orNan};
 use numbers::Scalar;
+
+mod answers;
+mod filters;
+mod interpolation;
+mod plans;
+mod polynomials;
+
+pub use filters::stepsheaf_adjust_bands;
+pub use filters::stepsheaf_adjust_desired;
+pub use filters::stepsheaf_adjust_weights;
+pub use filters::stepsheaf_check_response;
+pub use filters::stepsheaf_desired;
+pub use filters::stepsheaf_taps;
+pub use filters::stepsheaf_weight;
+pub use interpolation::stepsheaf_abscissas;
+pub use interpolation::stepsheaf_delta;
+pub use interpolation::stepsheaf_response;
+pub use interpolation::stepsheaf_responses;
+pub use interpolation::stepsheaf_weights;
+pub use polynomials::stepsheaf_coefficients;
+pub use polynomials::stepsheaf_nodes;
 
 fn or_nan(s: Scalar) -> f64
     ensures { λ r. ⌜ r ≡ orNan (scalarOf s) ⌝ }
