@@ -188,6 +188,7 @@ fn parts(c: &mut Chance) -> Parts {
         kinds: vec![],
         numbers: vec![],
     };
+    let far = c.one_in(8);
     for band in &bands {
         for value in [band.desired, band.weight] {
             parts.kinds.push(u64::from(value.kind()));
@@ -202,6 +203,16 @@ fn parts(c: &mut Chance) -> Parts {
                 v1
             };
             parts.numbers.extend([v0, v1]);
+        }
+        if far {
+            // Values whose difference is not finite, weights from the far ends.
+            let values = parts.numbers.len() - 4;
+            for j in 0..4 {
+                let number = c.extreme();
+                if c.one_in(2) {
+                    parts.numbers[values + j] = if j < 2 { c.signed(number) } else { number };
+                }
+            }
         }
     }
     if c.one_in(6) {
