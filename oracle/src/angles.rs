@@ -10,12 +10,20 @@ const QUARTER_PI: f64 = std::f64::consts::FRAC_PI_4;
 const THREE_QUARTERS_PI: f64 = 2.356194490192345;
 
 fn magnitude(x: f64) -> f64 {
-    if x <= 0.0 { 0.0 - x } else { x }
+    if x <= 0.0 {
+        0.0 - x
+    } else {
+        x
+    }
 }
 
 fn clamped(x: f64, low: f64, high: f64) -> f64 {
     if x <= high {
-        if low <= x { x } else { low }
+        if low <= x {
+            x
+        } else {
+            low
+        }
     } else {
         high
     }
@@ -61,12 +69,7 @@ fn cosine_part(r: f64) -> f64 {
         2.08767569878681e-09,
         4.779477332387385e-14,
     );
-    let odd = by_square(
-        w,
-        0.001388888888888889,
-        2.755731922398589e-07,
-        1.1470745597729725e-11,
-    );
+    let odd = by_square(w, 0.001388888888888889, 2.755731922398589e-07, 1.1470745597729725e-11);
     1.0 - (0.5 * z - w * (even - z * odd))
 }
 
@@ -161,10 +164,7 @@ fn root(z: f64) -> f64 {
     if z == 0.0 {
         return 0.0;
     }
-    let s = Scaled {
-        square: z,
-        unit: 1.0,
-    };
+    let s = Scaled { square: z, unit: 1.0 };
     let t = lifted(s);
     let u = settled(t);
     root_in(u)
@@ -174,17 +174,13 @@ fn even_terms(w: f64) -> f64 {
     0.16666666666666669
         + w * (0.04464285714635543
             + w * (0.02237217294214989
-                + w * (0.013971212973552933
-                    + w * (0.01032281435018578
-                        + w * (0.01740087944269402 + w * 0.028757851367421566)))))
+                + w * (0.013971212973552933 + w * (0.01032281435018578 + w * (0.01740087944269402 + w * 0.028757851367421566)))))
 }
 
 fn odd_terms(w: f64) -> f64 {
     0.07499999999998433
         + w * (0.030381944138531247
-            + w * (0.017352392720869973
-                + w * (0.011479177415184906
-                    + w * (0.005457506718640358 - w * 0.014851887071247204))))
+            + w * (0.017352392720869973 + w * (0.011479177415184906 + w * (0.005457506718640358 - w * 0.014851887071247204))))
 }
 
 fn arcsine_part(z: f64) -> f64 {
@@ -222,7 +218,11 @@ fn is_in_unit(x: f64) -> bool {
 }
 
 fn folded_arccosine(x: f64) -> f64 {
-    if magnitude(x) <= 0.5 { near(x) } else { far(x) }
+    if magnitude(x) <= 0.5 {
+        near(x)
+    } else {
+        far(x)
+    }
 }
 
 /// The arccosine of a number from -1 to 1.
