@@ -1,0 +1,23 @@
+-- `leaf_values::judging::are_finite` is safe and ends. Assumes nothing.
+use mathlib.Core.Path.{sym}
+use native.Mathlib.Omega.{arith}
+use lib.Seq.{length-take-le}
+use borrow.Author.Needs.{needs}
+use Rattle.leaf_values.proofs.judging.are_finite.Statement.{statement}
+use Rattle.leaf_values.proofs.judging.are_finite.Tie as tie
+
+returns : tie.Need-returns
+returns c = search needs
+
+slice-aggregate-all-finite : tie.Need-slice-aggregate-all-finite
+slice-aggregate-all-finite c = sym (length-take-le _ _ (omega arith))
+
+all-finite-requires : tie.Need-all-finite-requires
+all-finite-requires c κs = search needs
+
+returns-2 : tie.Need-returns-2
+returns-2 c = search needs
+
+pub are-finite-spec : {M : Type 1} → statement M
+are-finite-spec =
+    tie.close (tie.spec returns slice-aggregate-all-finite all-finite-requires returns-2)
