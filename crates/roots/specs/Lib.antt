@@ -1,0 +1,3 @@
+pub mod Residual
+pub mod Brackets
+pub mod Answer
