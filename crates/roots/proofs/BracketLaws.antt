@@ -133,9 +133,9 @@ module _ {a : Matrix} {s : ℕ} {g : List Float} {j n : ℕ} {low : List Float} 
         within = omega arith;
         behind = omega (arith, f .behind);
         rest =
-          ap (λ t. bind (lowEnds (found a s g (64 - (j + 1)) (j + 1))) (λ l. gave (t ++ l))) (ap (λ i. take i (set low n x)) (add-one n) ∙ take-suc-set low n x k)
-          ∙ sym (behind-there (lowEnds (found a s g (64 - (j + 1)) (j + 1))) (take n low) x)
-          ∙ (rw (found-is a s g j h, ← e) at (f .rest));
+            ap (λ t. bind (lowEnds (found a s g (64 - (j + 1)) (j + 1))) (λ l. gave (t ++ l))) (ap (λ i. take i (set low n x)) (add-one n) ∙ take-suc-set low n x k)
+            ∙ sym (behind-there (lowEnds (found a s g (64 - (j + 1)) (j + 1))) (take n low) x)
+            ∙ (rw (found-is a s g j h, ← e) at (f .rest));
       }
 
   pub find-stop : {m : ℕ} → refused m ≡ lowEnds (cell a s (getD g j nan) (getD g (j + 1) nan) j) → refused m ≡ r
