@@ -5,26 +5,17 @@ use mathlib.Core.Bool.{Bool, true, false, cond, _&&_, _||_}
 use mathlib.Core.List.{List, [], _∷_, _++_, map, append-assoc, append-nil}
 use native.Mathlib.Omega.{arith}
 use native.Mathlib.Numerals.{add-one}
-use lib.ListN.{length, getD, set, take, drop-of-length-le}
+use lib.ListN.{length, getD, set, take}
 use lib.Seq.{take-suc-set}
 use lib.Ieee.{Float, nan, lt, eq}
 use lib.Ieee.Scale.{finite}
 use Rattle.numbers.specs.Floats.{zero64}
 use Rattle.numbers.specs.Outcome.{Outcome, refused, gave, bind, unless}
-use Rattle.numbers.specs.Loops.{tab}
-use Rattle.numbers.proofs.LoopLaws.{Going, put, fill-start}
 use Rattle.numbers.proofs.Order.{lt-asym}
 use Rattle.colleague.specs.Matrix.{Matrix}
 use Rattle.roots.specs.declared.brackets.Bracket.{Bracket}
 use Rattle.roots.specs.Residual.{residual}
 use Rattle.roots.specs.Brackets.{opposite, middle, bracket, halved, cell, cellEnd, found, lowOf, lowEnd, lowEnds}
-
--- ---- a loop that fills the whole of a list
-pub fill-all : {A : Type 0} (g : ℕ → A) (n : ℕ) (o : List A) → length o ≡ n → Going (put g) n 0 o (tab g n 0)
-fill-all g n o h =
-    let a : n ≤ length o = omega arith in
-    let b : length o ≤ n = omega arith in
-    rw (drop-of-length-le o {i = n} b, append-nil) at (fill-start g n o a)
 
 -- ---- the signs of p and q differ, by the tests in the order of the code
 or-none : (b : Bool) → b ≡ (b || false)

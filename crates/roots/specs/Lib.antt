@@ -1,3 +1,4 @@
 pub mod Residual
+pub mod Rows
 pub mod Brackets
 pub mod Answer

@@ -14,12 +14,15 @@ use Rattle.roots.specs.declared.residual.Turn.{Turn}
 abbrev pub first : Matrix → Float → Turn
 first a x = record { n = x ⊖ at a 0 0; v = one64 }
 
--- from n(j) and v(j) to those of j + 1
+-- from n(j) and v(j) to those of j + 1, of a(j,j+1), a(j+1,0) and a(j+1,j)
+abbrev pub turnBy : ℕ → Float → Float → Float → Float → Turn → Turn
+turnBy j right first left x t =
+    let w = t .n ⊘ right in
+    let m = x ⊗ w ⊖ first in
+    record { n = cond (leb 1 j) (m ⊖ left ⊗ t .v) m; v = w }
+
 abbrev pub turn : Matrix → Float → ℕ → Turn → Turn
-turn a x j t =
-    let w = t .n ⊘ at a j (j + 1) in
-    let m = x ⊗ w ⊖ at a (j + 1) 0 in
-    record { n = cond (leb 1 j) (m ⊖ at a (j + 1) j ⊗ t .v) m; v = w }
+turn a x j t = turnBy j (at a j (j + 1)) (at a (j + 1) 0) (at a (j + 1) j) x t
 
 unfoldable pub residual : Matrix → ℕ → Float → Float
 residual a s x = run (turn a x) (s - 1) 0 (first a x) .n

@@ -1,6 +1,7 @@
 ghost use mathlib.Core.Path.{_≡_};
 ghost use Prim.Native.Nat.{_+_, _<_, _≤_};
 ghost use lib.ListN.{length};
+ghost use Rattle.numbers.specs.Loops.{tab};
 ghost use Rattle.numbers.specs.Refusals.{scalarOf, countOf, few};
 ghost use Rattle.roots.specs.Brackets.{cellEnd, grid, opposite, halved, lowEnd, cell, cellOf, found, lowEnds};
 use crate::residual;
@@ -40,16 +41,25 @@ fn are_opposite(p: f64, q: f64) -> bool
     false
 }
 
+fn cell_ends(x: &mut [f64])
+    requires { ⌜ length (now x) ≡ 65 ⌝ }
+    ensures { λ _. ⌜ now (x .exit) ≡ tab cellEnd 65 0 ⌝ }
+{
+    let mut j: usize = 0;
+    while j < 65 {
+        x[j] = cell_end(j as u32);
+        j += 1;
+    }
+}
+
 // The residuals at the 65 cell ends.
 pub(crate) fn cell_residuals(a: &[[f64; 15]; 15], s: usize, g: &mut [f64])
     requires { ⌜ (1 ≤ s) × (s ≤ 15) × (length (now g) ≡ 65) ⌝ }
     ensures { λ _. ⌜ now (g .exit) ≡ grid (now (a .entry)) s ⌝ }
 {
-    let mut j: usize = 0;
-    while j < 65 {
-        g[j] = residual::residual(a, s, cell_end(j as u32));
-        j += 1;
-    }
+    let mut x = [0.0; 65];
+    cell_ends(&mut x);
+    residual::residuals(a, s, &x, g);
 }
 
 // The low end that 40 halvings leave, or the midpoint that is a root; p is the residual at the low end.

@@ -28,6 +28,48 @@ loop-holds c = start
 sub-loop : tie.Need-sub-loop Inv-loop μ-loop
 sub-loop c = search needs
 
+add-next-turn : tie.Need-add-next-turn Inv-loop μ-loop
+add-next-turn c = search needs
+
+mul-next-turn : tie.Need-mul-next-turn Inv-loop μ-loop
+mul-next-turn c = search needs
+
+mul-next-turn-2 : tie.Need-mul-next-turn-2 Inv-loop μ-loop
+mul-next-turn-2 c = search needs
+
+index-1-next-turn : tie.Need-index-1-next-turn Inv-loop μ-loop
+index-1-next-turn c = search needs
+
+index-2-next-turn : tie.Need-index-2-next-turn Inv-loop μ-loop
+index-2-next-turn c = search needs
+
+add-next-turn-2 : tie.Need-add-next-turn-2 Inv-loop μ-loop
+add-next-turn-2 c = search needs
+
+mul-next-turn-3 : tie.Need-mul-next-turn-3 Inv-loop μ-loop
+mul-next-turn-3 c = search needs
+
+index-1-next-turn-2 : tie.Need-index-1-next-turn-2 Inv-loop μ-loop
+index-1-next-turn-2 c = search needs
+
+index-2-next-turn-2 : tie.Need-index-2-next-turn-2 Inv-loop μ-loop
+index-2-next-turn-2 c = search needs
+
+add-next-turn-3 : tie.Need-add-next-turn-3 Inv-loop μ-loop
+add-next-turn-3 c = search needs
+
+mul-next-turn-4 : tie.Need-mul-next-turn-4 Inv-loop μ-loop
+mul-next-turn-4 c = search needs
+
+mul-next-turn-5 : tie.Need-mul-next-turn-5 Inv-loop μ-loop
+mul-next-turn-5 c = search needs
+
+index-1-next-turn-3 : tie.Need-index-1-next-turn-3 Inv-loop μ-loop
+index-1-next-turn-3 c = search needs
+
+index-2-next-turn-3 : tie.Need-index-2-next-turn-3 Inv-loop μ-loop
+index-2-next-turn-3 c = search needs
+
 next-turn-requires : tie.Need-next-turn-requires Inv-loop μ-loop
 next-turn-requires c κs = search needs
 
@@ -38,7 +80,7 @@ loop-less : tie.Need-loop-less Inv-loop μ-loop
 loop-less c = search needs
 
 loop-again : tie.Need-loop-again Inv-loop μ-loop
-loop-again c = next (c .before .before .loop .inv) (c .before .loop-test .taken) (c .next-turn .ensures)
+loop-again c = next (c .before .before .before .before .before .loop .inv) (c .before .before .before .before .loop-test .taken) (c .next-turn .ensures)
 
 returns : tie.Need-returns Inv-loop μ-loop
 unfolding residual
@@ -54,6 +96,20 @@ residual-spec =
     index-2-t11
     loop-holds
     sub-loop
+    add-next-turn
+    mul-next-turn
+    mul-next-turn-2
+    index-1-next-turn
+    index-2-next-turn
+    add-next-turn-2
+    mul-next-turn-3
+    index-1-next-turn-2
+    index-2-next-turn-2
+    add-next-turn-3
+    mul-next-turn-4
+    mul-next-turn-5
+    index-1-next-turn-3
+    index-2-next-turn-3
     next-turn-requires
     add-j
     loop-less
