@@ -1,3 +1,4 @@
 pub mod RowLaws
 pub mod BracketLaws
 pub mod AnswerLaws
+pub mod Given
