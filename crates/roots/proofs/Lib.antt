@@ -2,3 +2,5 @@ pub mod RowLaws
 pub mod BracketLaws
 pub mod AnswerLaws
 pub mod Given
+pub mod Middle
+pub mod Inside
