@@ -1,7 +1,7 @@
 -- Every root that is given lies from -1 to 1: the cell ends do, and a midpoint lies between its ends. Assumes nothing.
 use Prim.Native.Nat.{ℕ, zero, suc, _+_, _-_, _^_, _<_, _≤_}
 use mathlib.Core.Path.{_≡_, refl, sym, ap, _∙_}
-use mathlib.Core.Logic.{_⊎_, inl, inr}
+use mathlib.Core.Logic.{inr}
 use mathlib.Core.Bool.{Bool, true, false, cond, _&&_}
 use mathlib.Core.List.{List, [], _∷_, _++_, map}
 use native.Mathlib.Omega.{arith}
@@ -11,11 +11,11 @@ use borrow.Author.Tests.{lt-ltb, le-ltb}
 use lib.Dec.{ltb, leb, eqb}
 use lib.ListN.{getD, length}
 use lib.Pow.{pow-pos}
-use lib.Ieee.{Float, nan, binary64, lt, le, eq, neg, ofBits, round, add, mul, div, ofInt, isNan}
+use lib.Ieee.{Float, nan, binary64, lt, le, eq, neg, ofBits, round, add, mul, div, ofInt}
 use lib.Ieee.Scale.{finite}
 use Rattle.numbers.specs.Floats.{zero64, one64, allFinite, Inside}
 use Rattle.numbers.specs.Loops.{tab, until, every}
-use Rattle.numbers.specs.Outcome.{Outcome, refused, gave, bind, unless}
+use Rattle.numbers.specs.Outcome.{Outcome, gave, bind, unless}
 use Rattle.numbers.proofs.LoopLaws.{every-at}
 use Rattle.numbers.proofs.Lanes.{tab-get}
 use Rattle.numbers.proofs.Given.{gave-same, unless-given, bind-given}
@@ -27,7 +27,7 @@ use Rattle.roots.specs.declared.brackets.Bracket.{Bracket}
 use Rattle.roots.specs.Residual.{residual}
 use Rattle.roots.specs.Brackets.{cellEnd, opposite, bracket, middle, halved, grid, cell, found, lowOf, lowEnds}
 use Rattle.roots.specs.Answer.{rowsOf, bracketsOf, rootsFor}
-use Rattle.roots.proofs.Middle.{Cell, Fine, fine-order, lower, upper, frac-exact, grid-cell}
+use Rattle.roots.proofs.Middle.{Fine, fine-order, lower, upper, frac-exact, grid-cell}
 
 -- ---- the cell ends
 ends-inside : every (λ j. le (neg one64) (cellEnd j) && le (cellEnd j) one64) 65 ≡ true

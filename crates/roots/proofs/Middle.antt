@@ -1,22 +1,20 @@
 -- Halving a cell whose ends are whole multiples of 2 ^ -k: the midpoint is exact and strictly between them, and both halves are
 -- such cells. Assumes nothing.
-use Prim.Native.Nat.{ℕ, zero, suc, _+_, _-_, _*_, _^_, _<_, _≤_}
+use Prim.Native.Nat.{ℕ, suc, _+_, _-_, _*_, _^_, _<_, _≤_}
 use mathlib.Core.Path.{_≡_, refl, sym, ap, _∙_, subst}
-use mathlib.Core.Bool.{Bool, true, false, not, _&&_, _||_, Bool·beq, cond}
+use mathlib.Core.Bool.{Bool, true, false, not}
 use mathlib.Core.Logic.{_⊎_, inl, inr}
 use lib.Ieee.Positive.{first-pos}
-use native.Mathlib.Nat.{lt-of-mul-lt-mul-right, mul-lt-mul-of-pos-right, add-zero, mul-assoc, mul-comm, mul-left-comm, mul-right-comm, mul-one, one-mul, add-mul, mul-pos, zero-mul, zero-lt-suc, pow-suc, pow-succ', mul-mul-mul-comm, lt-of-lt-of-le, eq-of-mul-eq-mul-right, le-trans, le-of-eq}
+use native.Mathlib.Nat.{lt-of-mul-lt-mul-right, mul-lt-mul-of-pos-right, mul-assoc, mul-comm, mul-left-comm, mul-right-comm, mul-one, add-mul, mul-pos, zero-mul, zero-lt-suc, pow-suc, pow-succ', mul-mul-mul-comm, lt-of-lt-of-le, eq-of-mul-eq-mul-right, le-trans, le-of-eq}
 use native.Mathlib.Omega.{arith}
-use borrow.Author.Tests.{lt-ltb, le-ltb, ltb-true, ltb-false}
-use lib.Dec.{T, ltb, eqb, lit≤}
+use borrow.Author.Tests.{lt-ltb}
 use lib.Pow.{pow-add, pow-pos, pow-mono, pow-lt, shl-lt}
-use lib.IntN.{ℤ, pos, negsuc}
-use lib.Ieee.{Float, nan, inf, fin, Format, binary64, up, down, round, fits, unlike, add, mul, sum, lt, ofBits}
-use lib.Ieee.Fits.{down-pos, up-pos}
+use lib.IntN.{ℤ}
+use lib.Ieee.{Float, nan, inf, fin, Format, binary64, up, down, round, unlike, add, mul, sum, lt, ofBits}
+use lib.Ieee.Fits.{down-pos}
 use lib.Ieee.Exact.{HasValue, round-exact}
 use lib.Ieee.Scale.{round-same}
 use lib.Ieee.Digits.{back}
-use Rattle.numbers.proofs.Order.{no}
 use Rattle.numbers.proofs.Zero.{add-comm}
 
 -- ---- a sum of two values of one sign, and a product, by any fractions that they equal
