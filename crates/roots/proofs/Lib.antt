@@ -4,3 +4,4 @@ pub mod AnswerLaws
 pub mod Given
 pub mod Middle
 pub mod Inside
+pub mod Rising
