@@ -131,6 +131,42 @@ pub(crate) fn edges(s: &[u8], at: usize, said: &mut [f64]) -> Found {
     settled(p.good, g, edges_passed(e, said, pairs) == e.count)
 }
 
+// Each interval of the list, in radians.
+pub(crate) fn do_radians_agree(given: &[f64], said: &[f64], pairs: usize) -> bool {
+    let mut i: usize = 0;
+    while i < pairs {
+        if given.len() / 2 <= i {
+            return false;
+        }
+        if said.len() / 2 <= i {
+            return false;
+        }
+        let b = fir_types::in_radians(fir_types::Interval {
+            begin: given[2 * i],
+            end: given[2 * i + 1],
+        });
+        if !is_same(b.begin, said[2 * i]) {
+            return false;
+        }
+        if !is_same(b.end, said[2 * i + 1]) {
+            return false;
+        }
+        i += 1;
+    }
+    true
+}
+
+pub(crate) fn radians(s: &[u8], at: usize, given: &mut [f64], said: &mut [f64]) -> Found {
+    let n = whole_at(s, past(s, at));
+    let m = n.count;
+    if 64 < m {
+        return bad(at);
+    }
+    let p = numbers_into(s, n.at, 2 * m, given);
+    let g = numbers_into(s, past(s, past(s, p.at)), 2 * m, said);
+    settled(p.good, g, do_radians_agree(given, said, m))
+}
+
 pub(crate) fn adjusted_at(plan: Plan, y: Symmetry, odd: bool, weight: bool, f: f64) -> Scalar {
     if weight {
         fir_types::adjust_weights(plan, y, odd, f)

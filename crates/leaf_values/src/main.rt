@@ -9,6 +9,7 @@ mod reading;
 use filters::adjusted;
 use filters::edges;
 use filters::lookup;
+use filters::radians;
 use filters::realizable;
 use filters::taps;
 use interpolation::abscissas;
@@ -75,6 +76,9 @@ fn other_case(s: &[u8], from: usize, to: usize, a: &mut [f64], said: &mut [f64])
     }
     if text::is(s, from, to, b"edges") {
         return edges(s, to, said);
+    }
+    if text::is(s, from, to, b"radians") {
+        return radians(s, to, a, said);
     }
     if text::is(s, from, to, b"adjusted_desired") {
         return adjusted(s, to, false, a, said);
@@ -190,7 +194,8 @@ fn is_all_good(s: &[u8]) -> bool {
     let g = both(f, reported(s, b"lookup"));
     let h = both(g, reported(s, b"realizable"));
     let i = both(h, reported(s, b"edges"));
-    let j = both(i, reported(s, b"adjusted_desired"));
+    let r = both(i, reported(s, b"radians"));
+    let j = both(r, reported(s, b"adjusted_desired"));
     let k = both(j, reported(s, b"adjusted_weight"));
     both(k, reported(s, b"taps"))
 }
