@@ -16,5 +16,6 @@ pub use edges::adjust_bands;
 pub use edges::in_radians;
 pub use kinds::are_taps_in_range;
 pub use kinds::functions_of;
+pub use kinds::is_odd;
 pub use realizable::check_response;
 pub use taps::h_from_ak;

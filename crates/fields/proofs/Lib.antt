@@ -1,0 +1,5 @@
+pub mod Laws
+pub mod PlaceLaws
+pub mod RequestLaws
+pub mod AnswerLaws
+pub mod Signs

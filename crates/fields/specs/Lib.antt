@@ -1,0 +1,3 @@
+pub mod Request
+pub mod Interpolant
+pub mod Accept
