@@ -1,0 +1,4 @@
+pub mod Errors
+pub mod Candidates
+pub mod Proxy
+pub mod Extrema
