@@ -18,11 +18,11 @@ said-is verdict.Taken a e = rw (← e)
 said-is (verdict.Refused q) a e = rw (← e)
 
 -- a leaf that writes a list
-pub numbered : {o : Outcome (List Float)} {n r : ℕ} {v : Verdict} {w w' : List Float} → r ≡ said v → Filled o n v w w' → Numbered o r w w'
-numbered {o} {n} {r} {v} {w} {w'} e f = record { is = e ∙ said-is v _ (f .is); out = f .out }
+pub numbered : {A : Type 0} {o : Outcome (List A)} {n r : ℕ} {v : Verdict} {w w' : List A} → r ≡ said v → Filled o n v w w' → Numbered o r w w'
+numbered {A} {o} {n} {r} {v} {w} {w'} e f = record { is = e ∙ said-is v _ (f .is); out = f .out }
 
 -- nothing is written where a call is refused
-pub numbered-none : {o : Outcome (List Float)} {n r : ℕ} {w : List Float} → r ≡ n → refused n ≡ o → Numbered o r w w
+pub numbered-none : {A : Type 0} {o : Outcome (List A)} {n r : ℕ} {w : List A} → r ≡ n → refused n ≡ o → Numbered o r w w
 numbered-none e h = rw (← h) (record { is = e; out = refl })
 
 -- a single number in front

@@ -1,2 +1,4 @@
 pub mod AnswerLaws
+pub mod CountLaws
 pub mod EdgeLaws
+pub mod MatrixLaws

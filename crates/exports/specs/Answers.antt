@@ -28,6 +28,20 @@ abbrev pub single : ℕ → Outcome Float → Outcome (List Float)
 single room o = unless (leb 1 room) 15 (bind o (λ x. gave (x ∷ [])))
 
 -- The contract of a function that writes to an output, w at entry and w' at exit: what it answers, and the numbers in front.
-pub record Numbered (o : Outcome (List Float)) (r : ℕ) (w w' : List Float) : Type 0 where
+pub record Numbered {A : Type 0} (o : Outcome (List A)) (r : ℕ) (w w' : List A) : Type 0 where
   pub is : r ≡ numberOf o
   pub out : w' ≡ front o w
+
+-- numbers, and whole numbers that say how many there are or how they were come by
+pub record Told : Type 0 where
+  pub counts : List ℕ
+  pub list : List Float
+
+abbrev pub told : List ℕ → List Float → Told
+told c l = record { counts = c; list = l }
+
+-- The contract of a function that writes to two outputs, counts to c and numbers to w.
+pub record Counted (o : Outcome Told) (r : ℕ) (c c' : List ℕ) (w w' : List Float) : Type 0 where
+  pub is : r ≡ numberOf o
+  pub counts : c' ≡ front (bind o (λ t. gave (t .counts))) c
+  pub out : w' ≡ front (bind o (λ t. gave (t .list))) w

@@ -1,2 +1,4 @@
 pub mod Answers
 pub mod Plans
+pub mod Intervals
+pub mod Matrices

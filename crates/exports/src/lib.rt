@@ -2,7 +2,8 @@
 //
 // An angle is answered as C's own library does it: a refused call answers a NaN. Every other leaf answers 0, or document 01's
 // number of the refusal, and writes its numbers to the front of `out`: a single number to its first place, and nothing where it
-// is refused. A slice is handed over as its address and its length.
+// is refused. Where the leaf decides how many numbers there are, `counts` says it. A slice is handed over as its address and its
+// length.
 ghost use mathlib.Core.Path.{_≡_};
 ghost use Rattle.numbers.specs.Refusals.{scalarOf};
 ghost use Rattle.angles.specs.Turns.{cosineOf, sineOf};
@@ -11,11 +12,16 @@ ghost use Rattle.exports.specs.Answers.{orNan};
 use numbers::Scalar;
 
 mod answers;
+mod candidates;
 mod filters;
 mod interpolation;
+mod intervals;
+mod matrices;
 mod plans;
 mod polynomials;
 
+pub use candidates::stepsheaf_prune;
+pub use candidates::stepsheaf_sort_candidates;
 pub use filters::stepsheaf_adjust_bands;
 pub use filters::stepsheaf_adjust_desired;
 pub use filters::stepsheaf_adjust_weights;
@@ -28,6 +34,10 @@ pub use interpolation::stepsheaf_delta;
 pub use interpolation::stepsheaf_response;
 pub use interpolation::stepsheaf_responses;
 pub use interpolation::stepsheaf_weights;
+pub use intervals::stepsheaf_initial_extremal_freqs;
+pub use intervals::stepsheaf_subdivide;
+pub use matrices::stepsheaf_colleague_matrix;
+pub use matrices::stepsheaf_roots;
 pub use polynomials::stepsheaf_coefficients;
 pub use polynomials::stepsheaf_nodes;
 

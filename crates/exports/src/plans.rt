@@ -21,7 +21,7 @@ fn value_from(kind: u64, a: f64, b: f64) -> Value
     }
 }
 
-fn number_at(numbers: &[f64], k: usize) -> f64
+pub(crate) fn number_at(numbers: &[f64], k: usize) -> f64
     ensures { λ r. ⌜ r ≡ numberAt (now (numbers .entry)) k ⌝ }
 {
     if k < numbers.len() { numbers[k] } else { 0.0 }
