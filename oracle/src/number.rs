@@ -5,18 +5,24 @@
 
 use crate::angles;
 
-/// Makes a newtype over `f64` that pm-remez takes, with the angles and the magnitude given.
+/// Makes a newtype over `f64` that pm-remez takes, with the angles, the magnitude and the order given.
 ///
-/// A macro, since the colleague leaf needs a second such type (see `leaves/colleague.rs`).
+/// A macro, since two leaves need a type of their own (see `leaves/colleague.rs` and `leaves/edges.rs`).
 #[macro_export]
 macro_rules! number_type {
     (
         $(#[$doc:meta])* $name:ident,
-        cos: $cos:expr, sin: $sin:expr, acos: $acos:expr, abs: $abs:expr $(,)?
+        cos: $cos:expr, sin: $sin:expr, acos: $acos:expr, abs: $abs:expr, order: $order:expr $(,)?
     ) => {
         $(#[$doc])*
-        #[derive(Debug, Clone, Copy, PartialEq, PartialOrd)]
+        #[derive(Debug, Clone, Copy, PartialEq)]
         pub struct $name(pub f64);
+
+        impl ::std::cmp::PartialOrd for $name {
+            fn partial_cmp(&self, other: &$name) -> Option<::std::cmp::Ordering> {
+                ($order)(self.0, other.0)
+            }
+        }
 
         $crate::number_type!(@binary $name, Add add +, Sub sub -, Mul mul *, Div div /, Rem rem %);
 
@@ -155,6 +161,7 @@ number_type!(
     sin: |x| angles::sine(x).unwrap_or(f64::NAN),
     acos: |x| angles::arccosine(x).unwrap_or(f64::NAN),
     abs: f64::abs,
+    order: |a: f64, b: f64| a.partial_cmp(&b),
 );
 
 /// A list of `f64` as pm-remez takes it.

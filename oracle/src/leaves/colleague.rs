@@ -16,6 +16,7 @@ use crate::chance::Chance;
 use crate::design::caught;
 use crate::number::{Number, numbers, plain};
 use crate::number_type;
+use crate::roots::NoRoots;
 use crate::text::Page;
 
 thread_local! {
@@ -40,12 +41,23 @@ number_type!(
     sin: |_| f64::NAN,
     acos: |_| f64::NAN,
     abs: counted_magnitude,
+    order: |a: f64, b: f64| a.partial_cmp(&b),
 );
 
 /// The balanced matrix and the passes begun.
-struct Balanced {
+pub struct Balanced {
     matrix: Array2<Fed>,
-    passes: usize,
+    pub passes: usize,
+}
+
+impl Balanced {
+    /// The entries, row after row.
+    pub fn rows(&self) -> Vec<Vec<f64>> {
+        let s = self.matrix.nrows();
+        (0..s)
+            .map(|j| (0..s).map(|k| self.matrix[(j, k)].0).collect())
+            .collect()
+    }
 }
 
 fn hand_out(cosines: &[f64]) {
@@ -60,7 +72,7 @@ fn values(degree: usize) -> Vec<Fed> {
 }
 
 /// The derivative's coefficients that these cosines give.
-fn derivative(cosines: &[f64]) -> Vec<f64> {
+pub fn derivative(cosines: &[f64]) -> Vec<f64> {
     hand_out(cosines);
     function::compute_cheby_coefficients(&values(cosines.len() - 1))
         .iter()
@@ -71,7 +83,7 @@ fn derivative(cosines: &[f64]) -> Vec<f64> {
 }
 
 /// Runs the Rust from the values at the nodes to the backend.
-fn balanced(cosines: &[f64]) -> Result<Balanced, &'static str> {
+pub fn balanced(cosines: &[f64]) -> Result<Balanced, &'static str> {
     hand_out(cosines);
     MAGNITUDES.set(0);
     let values = values(cosines.len() - 1);
@@ -155,21 +167,13 @@ fn wanted(c: &mut Chance, degree: usize) -> Vec<f64> {
 }
 
 /// The cosines that feed wanted coefficients.
-fn cosines(wanted: &[f64]) -> Vec<f64> {
+pub fn cosines(wanted: &[f64]) -> Vec<f64> {
     let degree = wanted.len();
     let scale = 2.0 / degree as f64;
     let mut cosines = vec![0.0];
     cosines.extend((1..=degree).map(|k| wanted[k - 1] / k as f64 / scale));
     cosines[degree] *= 2.0;
     cosines
-}
-
-/// The entries of a matrix, row after row.
-fn rows(matrix: &Array2<Fed>) -> Vec<Vec<f64>> {
-    let s = matrix.nrows();
-    (0..s)
-        .map(|j| (0..s).map(|k| matrix[(j, k)].0).collect())
-        .collect()
 }
 
 fn write_rows(page: &mut Page, rows: &[Vec<f64>]) {
@@ -184,12 +188,24 @@ pub fn colleague(c: &mut Chance, index: usize, page: &mut Page) {
     let cosines = cosines(&wanted(c, degree));
     page.numbers("coefficients", &derivative(&cosines));
     match balanced(&cosines) {
-        Ok(Balanced { matrix, passes }) => {
-            page.line(format_args!("gives {passes} {}", matrix.nrows()));
-            write_rows(page, &rows(&matrix));
+        Ok(balanced) => {
+            let rows = balanced.rows();
+            page.line(format_args!("gives {} {}", balanced.passes, rows.len()));
+            write_rows(page, &rows);
         }
         Err(name) => page.line(format_args!("failed {name}")),
     }
+}
+
+/// The roots that our search sees of a matrix.
+pub fn roots_of(rows: &[Vec<f64>]) -> Result<Vec<f64>, NoRoots> {
+    let mut matrix = Array2::zeros((rows.len(), rows.len()));
+    for (j, row) in rows.iter().enumerate() {
+        for (k, &entry) in row.iter().enumerate() {
+            matrix[(j, k)] = Number(entry);
+        }
+    }
+    crate::roots::roots(&matrix)
 }
 
 /// The roots that our search sees of such a matrix, or of one number on or beside a cell's end.
@@ -201,19 +217,13 @@ pub fn roots(c: &mut Chance, index: usize, page: &mut Page) {
         vec![vec![c.among(&[end, end, end.next_up(), 1.0, any])]]
     } else {
         match balanced(&cosines(&wanted(c, degree))) {
-            Ok(Balanced { matrix, .. }) => rows(&matrix),
+            Ok(balanced) => balanced.rows(),
             Err(_) => Vec::new(),
         }
     };
-    let mut matrix = Array2::zeros((rows.len(), rows.len()));
-    for (j, row) in rows.iter().enumerate() {
-        for (k, &entry) in row.iter().enumerate() {
-            matrix[(j, k)] = Number(entry);
-        }
-    }
     page.line(format_args!("matrix {}", rows.len()));
     write_rows(page, &rows);
-    match crate::roots::roots(&matrix) {
+    match roots_of(&rows) {
         Ok(found) => page.numbers("gives", &found),
         Err(why) => page.line(format_args!("failed {}", why.name())),
     }

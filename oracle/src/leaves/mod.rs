@@ -5,7 +5,8 @@
 mod angle;
 mod barycentric;
 mod chebyshev;
-mod colleague;
+pub mod colleague;
+pub mod edges;
 mod extrema;
 mod fir_types;
 mod known;
