@@ -1,10 +1,11 @@
 /* The proved leaves as a filter, for a host of any kind: libexports.a holds code for x86-64 alone.
 
    Standard input: parts, each a word that says how many words follow, then blocks. A block is
-     which leaf (the order below), the length of its output, how many whole numbers, how many lists;
+     which leaf (the order below), the lengths of its counts and of its output, how many whole numbers, how many lists;
      the whole numbers, a number among them by its bits; each list as its length and its members.
-   Standard output, for each part: a block for each of its blocks, which is the answer and then every word of the output with
-   GUARD words before and after it. Before the call these words are MARK + 0, 1, .. in order.
+   Standard output, for each part: a block for each of its blocks, which is the answer and then every word of the counts and of
+   the output, each with GUARD words before and after it. Before the call these words are MARK + 0, 1, .. in order. The sort works
+   in its output, which is its list before the call.
 
    No header: the compiler beside the prover brings none. */
 
@@ -15,6 +16,7 @@ long write(int, void *, word);
 /* a slice: its address and its length */
 #define LIST const double *, word
 #define OUT double *, word
+#define WORDS word *, word
 #define PLAN const word *, word, LIST
 word stepsheaf_weights(LIST, OUT);
 word stepsheaf_delta(LIST, LIST, LIST, OUT);
@@ -30,6 +32,12 @@ word stepsheaf_check_response(PLAN, word, word);
 word stepsheaf_adjust_bands(PLAN, word, word, OUT);
 word stepsheaf_adjust_desired(PLAN, word, word, double, OUT);
 word stepsheaf_adjust_weights(PLAN, word, word, double, OUT);
+word stepsheaf_initial_extremal_freqs(LIST, word, OUT);
+word stepsheaf_subdivide(LIST, LIST, WORDS, OUT);
+word stepsheaf_colleague_matrix(LIST, WORDS, OUT);
+word stepsheaf_roots(LIST, WORDS, OUT);
+word stepsheaf_prune(LIST, word, WORDS);
+void stepsheaf_sort_candidates(WORDS, word);
 
 enum { GUARD = 8, MOST = 1 << 21, LISTS = 4 };
 #define MARK 0x5a5a5a5a5a5a0000ul
@@ -56,7 +64,13 @@ static double number(word bits) {
 
 #define L(i) (const double *)list[i], size[i]
 #define P list[0], size[0], L(1)
-static word call(word leaf, const word *n, const word **list, const word *size, double *out, word room) {
+static word sorted(const word *list, word size, word n, word *out) {
+    for (word i = 0; i < size; i++) out[i] = list[i];
+    stepsheaf_sort_candidates(out, size, n);
+    return 0;
+}
+
+static word call(word leaf, const word *n, const word **list, const word *size, word *counts, word few, double *out, word room) {
     switch (leaf) {
     case 0: return stepsheaf_weights(L(0), out, room);
     case 1: return stepsheaf_delta(L(0), L(1), L(2), out, room);
@@ -72,6 +86,12 @@ static word call(word leaf, const word *n, const word **list, const word *size, 
     case 11: return stepsheaf_adjust_bands(P, n[0], n[1], out, room);
     case 12: return stepsheaf_adjust_desired(P, n[0], n[1], number(n[2]), out, room);
     case 13: return stepsheaf_adjust_weights(P, n[0], n[1], number(n[2]), out, room);
+    case 14: return stepsheaf_initial_extremal_freqs(L(0), n[0], out, room);
+    case 15: return stepsheaf_subdivide(L(0), L(1), counts, few, out, room);
+    case 16: return stepsheaf_colleague_matrix(L(0), counts, few, out, room);
+    case 17: return stepsheaf_roots(L(0), counts, few, out, room);
+    case 18: return stepsheaf_prune(L(0), n[0], (word *)out, room);
+    case 19: return sorted(list[0], size[0], n[0], (word *)out);
     default: return ~0ul;
     }
 }
@@ -84,19 +104,21 @@ int main(void) {
         if (got < 0 || count > MOST || whole(read, 0, asked, count * sizeof(word)) != 1) return 1;
         word *out = said;
         for (const word *in = asked; in < asked + count;) {
-            word leaf = in[0], room = in[1], wholes = in[2], lists = in[3];
-            const word *numbers = in + 4, *list[LISTS];
-            word size[LISTS], length = room + 2 * GUARD;
+            word leaf = in[0], few = in[1], room = in[2], wholes = in[3], lists = in[4];
+            const word *numbers = in + 5, *list[LISTS];
+            word size[LISTS], first = few + 2 * GUARD, second = room + 2 * GUARD;
             in = numbers + wholes;
-            if (lists > LISTS || out + 1 + length > said + MOST) return 1;
+            if (lists > LISTS || out + 1 + first + second > said + MOST) return 1;
             for (word i = 0; i < lists; i++) {
                 size[i] = *in++;
                 list[i] = in;
                 in += size[i];
             }
-            for (word i = 0; i < length; i++) out[1 + i] = MARK + i;
-            out[0] = call(leaf, numbers, list, size, (double *)(out + 1 + GUARD), room);
-            out += 1 + length;
+            word *counts = out + 1, *words = counts + first;
+            for (word i = 0; i < first; i++) counts[i] = MARK + i;
+            for (word i = 0; i < second; i++) words[i] = MARK + i;
+            out[0] = call(leaf, numbers, list, size, counts + GUARD, few, (double *)(words + GUARD), room);
+            out = words + second;
         }
         if (whole(write, 1, said, (out - said) * sizeof(word)) != 1) return 1;
     }

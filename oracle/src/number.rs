@@ -5,14 +5,15 @@
 
 use crate::angles;
 
-/// Makes a newtype over `f64` that pm-remez takes, with the angles, the magnitude and the order given.
+/// Makes a newtype over `f64` that pm-remez takes, with the angles, the magnitude, the order and the smaller of two given.
 ///
 /// A macro, since two leaves need a type of their own (see `leaves/colleague.rs` and `leaves/edges.rs`).
 #[macro_export]
 macro_rules! number_type {
     (
         $(#[$doc:meta])* $name:ident,
-        cos: $cos:expr, sin: $sin:expr, acos: $acos:expr, abs: $abs:expr, order: $order:expr $(,)?
+        cos: $cos:expr, sin: $sin:expr, acos: $acos:expr, abs: $abs:expr, order: $order:expr,
+        min: $min:expr $(,)?
     ) => {
         $(#[$doc])*
         #[derive(Debug, Clone, Copy, PartialEq)]
@@ -92,6 +93,9 @@ macro_rules! number_type {
             fn abs(self) -> $name {
                 $name(($abs)(self.0))
             }
+            fn min(self, other: $name) -> $name {
+                $name(($min)(self.0, other.0))
+            }
 
             fn sin_cos(self) -> ($name, $name) {
                 (self.sin(), self.cos())
@@ -115,7 +119,7 @@ macro_rules! number_type {
                 is_sign_positive is_sign_negative);
             $crate::number_type!(@one $name, floor ceil round trunc fract signum recip sqrt exp exp2
                 ln log2 log10 cbrt tan asin atan exp_m1 ln_1p sinh cosh tanh asinh acosh atanh);
-            $crate::number_type!(@two $name, powf log max min abs_sub hypot atan2);
+            $crate::number_type!(@two $name, powf log max abs_sub hypot atan2);
         }
     };
 
@@ -162,6 +166,7 @@ number_type!(
     acos: |x| angles::arccosine(x).unwrap_or(f64::NAN),
     abs: f64::abs,
     order: |a: f64, b: f64| a.partial_cmp(&b),
+    min: f64::min,
 );
 
 /// A list of `f64` as pm-remez takes it.

@@ -32,10 +32,35 @@ pub enum Ask {
     AdjustBands(Parts, Kind),
     AdjustDesired(Parts, Kind, f64),
     AdjustWeights(Parts, Kind, f64),
+    /// Begin and end of each band, and functions.
+    First(Vec<f64>, u64),
+    /// Points, and begin and end of each band.
+    Subdivide([Vec<f64>; 2]),
+    Colleague(Derivative),
+    /// A matrix, row by row.
+    Roots(Vec<f64>),
+    /// Errors, and how many to keep.
+    Prune(Vec<f64>, u64),
+    /// Candidates, two words each, and how many to sort.
+    Sort(Vec<u64>, u64),
+}
+
+/// A derivative's coefficients, and the cosines that make pm-remez come by them, where it can.
+#[derive(Clone)]
+pub struct Derivative {
+    pub coefficients: Vec<f64>,
+    pub cosines: Vec<f64>,
+}
+
+/// The lengths of a call's outputs.
+#[derive(Clone, Copy)]
+pub struct Room {
+    pub counts: usize,
+    pub out: usize,
 }
 
 /// The leaves in the order of served.c.
-pub const LEAVES: [&str; 14] = [
+pub const LEAVES: [&str; 20] = [
     "weights",
     "delta",
     "abscissas",
@@ -50,6 +75,12 @@ pub const LEAVES: [&str; 14] = [
     "adjust_bands",
     "adjust_desired",
     "adjust_weights",
+    "first",
+    "subdivide",
+    "colleague",
+    "roots",
+    "prune",
+    "sort",
 ];
 
 fn bits(list: &[f64]) -> Vec<u64> {
@@ -73,6 +104,12 @@ impl Ask {
             Ask::AdjustBands(..) => 11,
             Ask::AdjustDesired(..) => 12,
             Ask::AdjustWeights(..) => 13,
+            Ask::First(..) => 14,
+            Ask::Subdivide(..) => 15,
+            Ask::Colleague(..) => 16,
+            Ask::Roots(..) => 17,
+            Ask::Prune(..) => 18,
+            Ask::Sort(..) => 19,
         }
     }
 
@@ -80,7 +117,7 @@ impl Ask {
     fn wholes(&self) -> Vec<u64> {
         match self {
             Ask::Abscissas(x, _) | Ask::Response(x, _) => vec![x.to_bits()],
-            Ask::Nodes(degree) => vec![*degree],
+            Ask::Nodes(n) | Ask::First(_, n) | Ask::Prune(_, n) | Ask::Sort(_, n) => vec![*n],
             Ask::Taps(_, taps, symmetry) => vec![*taps, *symmetry],
             Ask::Desired(_, f) | Ask::Weight(_, f) => vec![f.to_bits()],
             Ask::CheckResponse(_, kind) | Ask::AdjustBands(_, kind) => {
@@ -89,14 +126,28 @@ impl Ask {
             Ask::AdjustDesired(_, kind, f) | Ask::AdjustWeights(_, kind, f) => {
                 vec![kind.symmetry, kind.odd, f.to_bits()]
             }
-            Ask::Weights(_) | Ask::Delta(_) | Ask::Responses(_) | Ask::Coefficients(_) => vec![],
+            Ask::Weights(_)
+            | Ask::Delta(_)
+            | Ask::Responses(_)
+            | Ask::Coefficients(_)
+            | Ask::Subdivide(_)
+            | Ask::Colleague(_)
+            | Ask::Roots(_) => vec![],
         }
     }
 
     fn lists(&self) -> Vec<Vec<u64>> {
         let all = |lists: &[Vec<f64>]| lists.iter().map(|list| bits(list)).collect();
         match self {
-            Ask::Weights(list) | Ask::Coefficients(list) | Ask::Taps(list, ..) => vec![bits(list)],
+            Ask::Weights(list)
+            | Ask::Coefficients(list)
+            | Ask::Taps(list, ..)
+            | Ask::First(list, _)
+            | Ask::Roots(list)
+            | Ask::Prune(list, _) => vec![bits(list)],
+            Ask::Colleague(derivative) => vec![bits(&derivative.coefficients)],
+            Ask::Sort(words, _) => vec![words.clone()],
+            Ask::Subdivide(lists) => all(lists),
             Ask::Delta(lists) | Ask::Response(_, lists) => all(lists),
             Ask::Abscissas(_, lists) => all(lists),
             Ask::Responses(lists) => all(lists),
@@ -110,12 +161,13 @@ impl Ask {
         }
     }
 
-    /// The block that asks it, with an output of this length.
-    pub fn block(&self, room: usize, words: &mut Vec<u64>) {
+    /// The block that asks it, with outputs of these lengths.
+    pub fn block(&self, room: Room, words: &mut Vec<u64>) {
         let (wholes, lists) = (self.wholes(), self.lists());
         words.extend([
             self.leaf() as u64,
-            room as u64,
+            room.counts as u64,
+            room.out as u64,
             wholes.len() as u64,
             lists.len() as u64,
         ]);
@@ -133,10 +185,10 @@ impl Ask {
     }
 
     /// The lines of the text format (oracle/README.md); a plan as its two lists, since it may be damaged.
-    pub fn text(&self, room: usize) -> String {
+    pub fn text(&self, room: Room) -> String {
         let mut page = Page::default();
         page.line(format_args!("leaf {}", LEAVES[self.leaf()]));
-        page.line(format_args!("room {room}"));
+        page.line(format_args!("room {} {}", room.counts, room.out));
         let named = |page: &mut Page, names: &[&str], lists: &[Vec<f64>]| {
             for (name, list) in names.iter().zip(lists) {
                 page.numbers(name, list);
@@ -174,6 +226,22 @@ impl Ask {
                 page.line(format_args!("type {} {}", kind.symmetry, kind.odd));
                 parts.text(&mut page);
                 page.line(format_args!("at {}", hex(*f)));
+            }
+            Ask::First(bands, functions) => {
+                page.line(format_args!("functions {functions}"));
+                page.numbers("bands", bands);
+            }
+            Ask::Subdivide(lists) => named(&mut page, &["points", "bands"], lists),
+            Ask::Colleague(derivative) => page.numbers("coefficients", &derivative.coefficients),
+            Ask::Roots(matrix) => page.numbers("matrix", matrix),
+            Ask::Prune(errors, keep) => {
+                page.numbers("errors", errors);
+                page.line(format_args!("keep {keep}"));
+            }
+            Ask::Sort(words, count) => {
+                let list: Vec<String> = words.iter().map(|word| format!("{word:016x}")).collect();
+                page.line(format_args!("candidates {} {}", list.len(), list.join(" ")));
+                page.line(format_args!("sort {count}"));
             }
         }
         page.0

@@ -10,7 +10,8 @@ use oracle::generate;
 use oracle::number::{numbers, plain};
 use pm_remez::{Symmetry, function};
 
-use crate::ask::{Ask, Kind, LEAVES, Parts};
+use crate::ask::{Ask, Kind, LEAVES, Parts, Room};
+use crate::search_lists;
 
 /// The limits, what lies beyond them, and where the stride of the weights changes.
 const LENGTHS: [usize; 24] = [
@@ -25,7 +26,7 @@ fn length(c: &mut Chance, index: usize) -> usize {
     }
 }
 
-fn list(c: &mut Chance, length: usize) -> Vec<f64> {
+pub fn list(c: &mut Chance, length: usize) -> Vec<f64> {
     let shape = c.below(8);
     let pool = [c.common(), c.common(), c.any()];
     (0..length)
@@ -112,7 +113,7 @@ fn spoil(c: &mut Chance, number: &mut f64) {
 }
 
 /// Now and then one list longer or shorter, and now and then a number that is not finite.
-fn spoil_lists(c: &mut Chance, lists: &mut [Vec<f64>]) {
+pub fn spoil_lists(c: &mut Chance, lists: &mut [Vec<f64>]) {
     if c.one_in(16) {
         let which = c.below(lists.len());
         if c.one_in(2) {
@@ -133,7 +134,7 @@ fn spoil_lists(c: &mut Chance, lists: &mut [Vec<f64>]) {
 }
 
 /// The length of an output that must have `most` places.
-fn room(c: &mut Chance, most: usize) -> usize {
+pub fn room(c: &mut Chance, most: usize) -> usize {
     match c.below(12) {
         0 => most.saturating_sub(1),
         1 => c.among(&[0, 1, most / 2]),
@@ -316,9 +317,21 @@ fn taps(c: &mut Chance, index: usize) -> (Ask, usize) {
     (Ask::Taps(list, taps, number), room)
 }
 
-/// Case `index` of a leaf: what is asked, and how long the output is.
-pub fn case(seed: u64, leaf: usize, index: usize) -> (Ask, usize) {
+/// Case `index` of a leaf: what is asked, and how long the outputs are.
+pub fn case(seed: u64, leaf: usize, index: usize) -> (Ask, Room) {
     let c = &mut Chance::new(seed, LEAVES[leaf], index as u64);
+    if leaf < FIRST_SEARCH {
+        let (ask, out) = of_arithmetic(c, leaf, index);
+        (ask, Room { counts: 0, out })
+    } else {
+        search_lists::case(c, leaf - FIRST_SEARCH, index)
+    }
+}
+
+/// The leaves from this one on are those of the search.
+const FIRST_SEARCH: usize = 14;
+
+fn of_arithmetic(c: &mut Chance, leaf: usize, index: usize) -> (Ask, usize) {
     match leaf {
         0 => {
             let length = length(c, index);

@@ -5,11 +5,13 @@ mod ask;
 mod lists;
 mod proved;
 mod rules;
+mod search_lists;
+mod search_rules;
 
 use std::collections::BTreeMap;
 use std::process::ExitCode;
 
-use ask::{Ask, LEAVES};
+use ask::{Ask, LEAVES, Room};
 use oracle::design::quiet_panics;
 use proved::Proved;
 use rules::Outcome::{Gave, Refused};
@@ -24,13 +26,13 @@ const SHOWN: usize = 20;
 #[derive(Default)]
 struct Class {
     count: usize,
-    smallest: Option<(Ask, usize)>,
+    smallest: Option<(Ask, Room)>,
 }
 
 impl Class {
-    fn add(&mut self, ask: &Ask, room: usize) {
+    fn add(&mut self, ask: &Ask, room: Room) {
         self.count += 1;
-        let smaller = |(other, _): &(Ask, usize)| ask.size() < other.size();
+        let smaller = |(other, _): &(Ask, Room)| ask.size() < other.size();
         if self.smallest.as_ref().is_none_or(smaller) {
             self.smallest = Some((ask.clone(), room));
         }
@@ -53,15 +55,20 @@ fn compare(leaf: usize, count: usize, seed: u64, filter: &mut Proved) -> Result<
         let answers = filter.answers(&part)?;
         for ((ask, room), answer) in part.iter().zip(&answers) {
             let said = rules::says(ask, *room);
-            let (number, list, word) = match &said.outcome {
-                Gave(list) => (0, &list[..], "gave".to_string()),
-                Refused(number) => (*number, &[][..], format!("refused {number:2}")),
+            let (number, word) = match &said.outcome {
+                Gave(_) => (0, "gave".to_string()),
+                Refused(number) => (*number, format!("refused {number:2}")),
             };
             *counts.outcomes.entry(word).or_default() += 1;
             if let Some(class) = said.difference {
                 counts.classes.entry(class).or_default().add(ask, *room);
             }
-            if answer.number != number || !answer.wrote(list) {
+            let wrote = match &said.outcome {
+                Gave(told) => answer.wrote(&told.counts, &told.words),
+                // The sort refuses nothing and leaves no word of a refused call to look at.
+                Refused(_) => answer.wrote(&[], &[]),
+            };
+            if answer.number != number || !wrote {
                 counts.wrong += 1;
                 if counts.wrong <= SHOWN {
                     println!("# DIFFERENT, expected {:?}", said.outcome);

@@ -3,7 +3,7 @@
 use std::io::{Read, Write};
 use std::process::{Child, ChildStdin, ChildStdout, Command, Stdio};
 
-use crate::ask::Ask;
+use crate::ask::{Ask, Room};
 
 /// served.c's GUARD and MARK.
 const GUARD: usize = 8;
@@ -15,37 +15,51 @@ pub struct Proved {
     answers: ChildStdout,
 }
 
-/// What a call answered, and each word of its output with the guards around it.
+/// What a call answered, and each word of its two outputs with the guards around it.
 pub struct Answer {
     pub number: u64,
+    counts: Vec<u64>,
     words: Vec<u64>,
 }
 
+/// The output begins with these words, and every other word is as it was.
+fn begins(output: &[u64], front: &[u64]) -> bool {
+    let written = GUARD..GUARD + front.len();
+    output.len() >= 2 * GUARD + front.len()
+        && output.iter().enumerate().all(|(i, &word)| {
+            if written.contains(&i) {
+                word == front[i - GUARD]
+            } else {
+                word == MARK + i as u64
+            }
+        })
+}
+
+fn shown(output: &[u64]) -> String {
+    let words = &output[GUARD..output.len() - GUARD];
+    let words: Vec<String> = words.iter().map(|word| format!("{word:016x}")).collect();
+    words.join(" ")
+}
+
+fn guarded(output: &[u64]) -> bool {
+    let end = output.len() - GUARD;
+    let guard = |i: usize| output[i] == MARK + i as u64;
+    (0..GUARD).all(guard) && (end..output.len()).all(guard)
+}
+
 impl Answer {
-    /// The output begins with these numbers, bit for bit, and every other word is as it was.
-    pub fn wrote(&self, list: &[f64]) -> bool {
-        let written = GUARD..GUARD + list.len();
-        self.words.len() >= 2 * GUARD + list.len()
-            && self.words.iter().enumerate().all(|(i, &word)| {
-                if written.contains(&i) {
-                    word == list[i - GUARD].to_bits()
-                } else {
-                    word == MARK + i as u64
-                }
-            })
+    /// The outputs begin with these, bit for bit, and are as they were beyond.
+    pub fn wrote(&self, counts: &[u64], words: &[u64]) -> bool {
+        begins(&self.counts, counts) && begins(&self.words, words)
     }
 
-    /// The output, for a message.
+    /// The outputs, for a message.
     pub fn output(&self) -> String {
-        let words = &self.words[GUARD..self.words.len() - GUARD];
-        let words: Vec<String> = words.iter().map(|word| format!("{word:016x}")).collect();
-        words.join(" ")
+        format!("{} and {}", shown(&self.counts), shown(&self.words))
     }
 
     pub fn guarded(&self) -> bool {
-        let end = self.words.len() - GUARD;
-        let guard = |i: usize| self.words[i] == MARK + i as u64;
-        (0..GUARD).all(guard) && (end..self.words.len()).all(guard)
+        guarded(&self.counts) && guarded(&self.words)
     }
 }
 
@@ -76,7 +90,7 @@ impl Proved {
     }
 
     /// The answers to a part. The filter reads all of it before it writes.
-    pub fn answers(&mut self, part: &[(Ask, usize)]) -> Result<Vec<Answer>, String> {
+    pub fn answers(&mut self, part: &[(Ask, Room)]) -> Result<Vec<Answer>, String> {
         let mut words = vec![0];
         for (ask, room) in part {
             ask.block(*room, &mut words);
@@ -85,20 +99,17 @@ impl Proved {
         let bytes: Vec<u8> = words.iter().flat_map(|word| word.to_le_bytes()).collect();
         said("take no more", self.asks.write_all(&bytes))?;
         said("take no more", self.asks.flush())?;
-        let length: usize = part.iter().map(|(_, room)| 1 + room + 2 * GUARD).sum();
-        let mut bytes = vec![0; 8 * length];
+        let size = |length: usize| length + 2 * GUARD;
+        let sizes = part.iter().map(|(_, r)| 1 + size(r.counts) + size(r.out));
+        let mut bytes = vec![0; 8 * sizes.sum::<usize>()];
         said("do not answer", self.answers.read_exact(&mut bytes))?;
         let word = |b: &[u8]| u64::from_le_bytes(b.try_into().expect("8 bytes"));
-        let words: Vec<u64> = bytes.chunks_exact(8).map(word).collect();
-        let mut at = 0;
-        let one = |(_, room): &(Ask, usize)| {
-            let end = at + 1 + room + 2 * GUARD;
-            let answer = Answer {
-                number: words[at],
-                words: words[at + 1..end].to_vec(),
-            };
-            at = end;
-            answer
+        let mut words = bytes.chunks_exact(8).map(word);
+        let mut next = |count: usize| words.by_ref().take(count).collect::<Vec<u64>>();
+        let one = |(_, room): &(Ask, Room)| Answer {
+            number: next(1)[0],
+            counts: next(size(room.counts)),
+            words: next(size(room.out)),
         };
         Ok(part.iter().map(one).collect())
     }

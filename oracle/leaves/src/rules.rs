@@ -7,12 +7,20 @@ use oracle::plan::{self, Band, Value};
 use pm_remez::error::Error;
 use pm_remez::{Symmetry, function};
 
-use crate::ask::{Ask, Kind, Parts};
+use crate::ask::{Ask, Kind, Parts, Room};
+use crate::search_rules;
+
+/// What is written: counts where a leaf has them, and the words of its numbers.
+#[derive(Debug, Clone, Default, PartialEq)]
+pub struct Told {
+    pub counts: Vec<u64>,
+    pub words: Vec<u64>,
+}
 
 /// Numbers, or the number of a refusal.
 #[derive(Debug, Clone, PartialEq)]
 pub enum Outcome {
-    Gave(Vec<f64>),
+    Gave(Told),
     Refused(u64),
 }
 use Outcome::{Gave, Refused};
@@ -24,43 +32,60 @@ pub struct Said {
 }
 
 // "Numbers that bound the work".
-const MOST_POINTS: usize = 65;
+pub const MOST_POINTS: usize = 65;
 const MOST_VALUES: usize = 64;
-const MOST_FUNCTIONS: usize = 64;
+pub const MOST_FUNCTIONS: usize = 64;
 const MOST_TAPS: u64 = 128;
-const MOST_BANDS: usize = 8;
+pub const MOST_BANDS: usize = 8;
 
 // Refusal numbers.
 const REQUEST: u64 = 5;
 const BANDS: u64 = 6;
 const RESPONSE: u64 = 7;
 const EDGES: u64 = 8;
-const NOT_FINITE: u64 = 9;
-const LISTS: u64 = 15;
+pub const NOT_FINITE: u64 = 9;
+pub const LISTS: u64 = 15;
 
-fn finite(list: &[f64]) -> bool {
+pub fn finite(list: &[f64]) -> bool {
     list.iter().all(|x| x.is_finite())
 }
 
-fn refused(number: u64) -> Said {
+pub fn refused(number: u64) -> Said {
     Said {
         outcome: Refused(number),
         difference: None,
     }
 }
 
-/// 9: "each finished .. weight, delta, abscissa .. tap"; the Rust goes on with such a number.
-fn needed(list: Vec<f64>) -> Said {
+pub fn bits(list: &[f64]) -> Vec<u64> {
+    list.iter().map(|x| x.to_bits()).collect()
+}
+
+/// Numbers alone.
+fn gave(list: &[f64]) -> Outcome {
+    Gave(Told {
+        counts: vec![],
+        words: bits(list),
+    })
+}
+
+/// 9: the Rust goes on with a number that is not finite.
+pub fn not_finite() -> Said {
+    Said {
+        outcome: Refused(NOT_FINITE),
+        difference: Some("pm-remez goes on with a number that is not finite"),
+    }
+}
+
+/// 9: "each finished .. weight, delta, abscissa .. tap".
+pub fn needed(list: Vec<f64>) -> Said {
     if finite(&list) {
         Said {
-            outcome: Gave(list),
+            outcome: gave(&list),
             difference: None,
         }
     } else {
-        Said {
-            outcome: Refused(NOT_FINITE),
-            difference: Some("pm-remez goes on with a number that is not finite"),
-        }
+        not_finite()
     }
 }
 
@@ -136,7 +161,8 @@ fn plan(parts: &Parts) -> Option<Vec<Band>> {
     bands_of(parts).filter(|bands| allowed(bands))
 }
 
-pub fn says(ask: &Ask, room: usize) -> Said {
+pub fn says(ask: &Ask, lengths: Room) -> Said {
+    let room = lengths.out;
     match ask {
         Ask::Weights(x) => {
             if !(2..=MOST_POINTS).contains(&x.len()) || room < x.len() {
@@ -235,6 +261,12 @@ pub fn says(ask: &Ask, room: usize) -> Said {
         Ask::AdjustBands(parts, kind) => adjust_bands(parts, *kind, room),
         Ask::AdjustDesired(parts, kind, f) => adjusted(parts, *kind, *f, room, true),
         Ask::AdjustWeights(parts, kind, f) => adjusted(parts, *kind, *f, room, false),
+        Ask::First(bands, functions) => search_rules::first(bands, *functions, room),
+        Ask::Subdivide([points, bands]) => search_rules::subdivide(points, bands, lengths),
+        Ask::Colleague(derivative) => search_rules::colleague(derivative, lengths),
+        Ask::Roots(matrix) => search_rules::roots(matrix, lengths),
+        Ask::Prune(errors, keep) => search_rules::prune(errors, *keep, room),
+        Ask::Sort(words, count) => search_rules::sort(words, *count),
     }
 }
 
@@ -306,7 +338,7 @@ fn adjust_bands(parts: &Parts, kind: Kind, room: usize) -> Said {
     let outcome = if pairs.is_empty() {
         Refused(EDGES)
     } else {
-        Gave(pairs)
+        gave(&pairs)
     };
     Said {
         outcome,

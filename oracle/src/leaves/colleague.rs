@@ -42,6 +42,7 @@ number_type!(
     acos: |_| f64::NAN,
     abs: counted_magnitude,
     order: |a: f64, b: f64| a.partial_cmp(&b),
+    min: f64::min,
 );
 
 /// The balanced matrix and the passes begun.
@@ -122,7 +123,7 @@ pub fn balanced(cosines: &[f64]) -> Result<Balanced, &'static str> {
 }
 
 /// Wanted derivative's coefficients; what is fed is as close to them as the scaling leaves it.
-fn wanted(c: &mut Chance, degree: usize) -> Vec<f64> {
+pub fn wanted(c: &mut Chance, degree: usize) -> Vec<f64> {
     let shape = c.below(8);
     let ratio = c.within(0.05, 0.9);
     let mut size = 1.0;
