@@ -1,19 +1,19 @@
 // Taps, lookup, response check, edges and adjusted values.
 use crate::judging::Found;
 use crate::judging::bad;
-use crate::judging::is_same;
 use crate::judging::judged_list;
 use crate::judging::judged_one;
 use crate::judging::settled;
 use crate::plans::filter_at;
 use crate::plans::plan_at;
 use crate::plans::symmetry_of;
-use crate::reading::list_into;
-use crate::reading::numbers_into;
-use crate::reading::past;
-use crate::reading::whole_at;
 use bands::Plan;
 use bands::Symmetry;
+use cases::is_same;
+use cases::list_into;
+use cases::numbers_into;
+use cases::past;
+use cases::whole_at;
 use numbers::Scalar;
 use numbers::Verdict;
 use text::Token;

@@ -4,10 +4,10 @@ use crate::judging::bad;
 use crate::judging::judged_list;
 use crate::judging::judged_one;
 use crate::judging::settled;
-use crate::reading::list_into;
 use crate::reading::one_into;
 use crate::reading::three_into;
 use crate::reading::two_into;
+use cases::list_into;
 
 pub(crate) fn weights(
     s: &[u8],

@@ -1,7 +1,9 @@
 // Whether a leaf's answer is pm-remez's, bit for bit. pm-remez does not refuse: where a number of its answer is not finite, the
 // leaf does.
-use crate::reading::Span;
-use bands::Value;
+use cases::Span;
+use cases::are_finite;
+use cases::are_same;
+use cases::is_same;
 use numbers::Scalar;
 use numbers::Verdict;
 
@@ -27,34 +29,6 @@ pub(crate) fn settled(good: bool, g: Span, agrees: bool) -> Found {
         good: if good { g.good } else { false },
         agrees,
     }
-}
-
-pub(crate) fn is_same(a: f64, b: f64) -> bool {
-    numbers::to_word(a) == numbers::to_word(b)
-}
-
-pub(crate) fn are_same(a: &[f64], b: &[f64], count: usize) -> bool {
-    let mut i: usize = 0;
-    while i < count {
-        if a.len() <= i {
-            return false;
-        }
-        if b.len() <= i {
-            return false;
-        }
-        if !is_same(a[i], b[i]) {
-            return false;
-        }
-        i += 1;
-    }
-    true
-}
-
-pub(crate) fn are_finite(a: &[f64], count: usize) -> bool {
-    if a.len() < count {
-        return false;
-    }
-    numbers::all_finite(&a[..count])
 }
 
 pub(crate) fn judged_list(v: Verdict, out: &[f64], said: &[f64], count: usize) -> bool {

@@ -123,17 +123,6 @@ fn more(n: u64, is_more: bool) -> u64 {
     }
 }
 
-// The word after a word `leaf`, if it is the name.
-fn is_case(s: &[u8], from: usize, to: usize, name: &[u8]) -> bool {
-    if !text::is(s, from, to, b"leaf") {
-        return false;
-    }
-    match text::next(s, to) {
-        Token::Word(a, b) => text::is(s, a, b, name),
-        Token::End => false,
-    }
-}
-
 fn tallied(s: &[u8], at: usize, t: Tally) -> Tally {
     let Token::Word(from, to) = text::next(s, at) else {
         return t;
@@ -154,7 +143,7 @@ fn counted(s: &[u8], name: &[u8]) -> Tally {
         let Token::Word(from, to) = text::next(s, at) else {
             return t;
         };
-        if is_case(s, from, to, name) {
+        if cases::is_case(s, from, to, name) {
             let u = tallied(s, to, t);
             t = u;
         }

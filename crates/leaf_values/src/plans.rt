@@ -1,11 +1,11 @@
 // Bands, plans and filters as the stored cases have them.
-use crate::reading::number_in;
-use crate::reading::past;
-use crate::reading::whole_at;
 use bands::Band;
 use bands::Plan;
 use bands::Symmetry;
 use bands::Value;
+use cases::number_in;
+use cases::past;
+use cases::whole_at;
 use text::Token;
 
 pub(crate) fn symmetry_of(n: usize) -> Symmetry {

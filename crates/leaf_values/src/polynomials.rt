@@ -3,9 +3,9 @@ use crate::judging::Found;
 use crate::judging::bad;
 use crate::judging::judged_list;
 use crate::judging::settled;
-use crate::reading::list_into;
-use crate::reading::past;
-use crate::reading::whole_at;
+use cases::list_into;
+use cases::past;
+use cases::whole_at;
 
 pub(crate) fn coefficients(
     s: &[u8],

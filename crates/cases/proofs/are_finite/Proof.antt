@@ -1,13 +1,14 @@
--- `leaf_values::judging::are_finite` is safe and ends. Assumes nothing.
+-- `cases::are_finite` meets its contract. Assumes nothing.
 use mathlib.Core.Path.{sym}
 use native.Mathlib.Omega.{arith}
 use lib.Seq.{length-take-le}
+use borrow.Author.Tests.{lt-leb, le-leb}
 use borrow.Author.Needs.{needs}
-use Rattle.leaf_values.proofs.judging.are_finite.Statement.{statement}
-use Rattle.leaf_values.proofs.judging.are_finite.Tie as tie
+use Rattle.cases.proofs.are_finite.Statement.{statement}
+use Rattle.cases.proofs.are_finite.Tie as tie
 
 returns : tie.Need-returns
-returns c = search needs
+returns c = rw (lt-leb _ _ (c .if1 .taken))
 
 slice-aggregate-all-finite : tie.Need-slice-aggregate-all-finite
 slice-aggregate-all-finite c = sym (length-take-le _ _ (omega arith))
@@ -16,7 +17,7 @@ all-finite-requires : tie.Need-all-finite-requires
 all-finite-requires c κs = search needs
 
 returns-2 : tie.Need-returns-2
-returns-2 c = search needs
+returns-2 c = rw (le-leb _ _ (c .before .before .if1 .left)) (c .all-finite .ensures)
 
 pub are-finite-spec : {M : Type 1} → statement M
 are-finite-spec =
