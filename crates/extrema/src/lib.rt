@@ -190,9 +190,9 @@ fn search(
     }
 }
 
-fn wipe(words: &mut [u64])
-    requires { ⌜ length (now words) ≡ 2482 ⌝ }
-    ensures { λ _. ⌜ now (words .exit) ≡ replicate 2482 0 ⌝ }
+// The words become zero.
+pub fn wipe(words: &mut [u64])
+    ensures { λ _. ⌜ now (words .exit) ≡ replicate (length (now (words .entry))) 0 ⌝ }
 {
     let mut i = 0;
     while i < words.len() {

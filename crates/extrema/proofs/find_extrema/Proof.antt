@@ -1,8 +1,8 @@
 -- `extrema::find_extrema` meets its contract. Assumes nothing.
-use mathlib.Core.Path.{_≡_, sym, _∙_}
+use mathlib.Core.Path.{_≡_, sym, ap, _∙_}
 use mathlib.Core.List.{_++_}
 use native.Mathlib.Omega.{arith}
-use lib.ListN.{length, length-append, take, drop}
+use lib.ListN.{length, length-append, take, drop, replicate}
 use lib.Seq.{length-take-le}
 use Rattle.numbers.proofs.OutcomeLaws.{bind-stop}
 use Rattle.extrema.proofs.ExtremaLaws.{answers-refused, few-words, enough-words, kept-words, wiped-words}
@@ -37,7 +37,7 @@ slice-aggregate-wipe c =
     sym (length-take-le 2482 (worked ++ drop 2482 w) (simp length-append (omega (arith, q, l))))
 
 wipe-requires : tie.Need-wipe-requires
-wipe-requires c κs = sym (slice-aggregate-wipe c)
+wipe-requires c κs = search needs
 
 same-length : tie.Need-same-length
 same-length c = search needs
@@ -49,7 +49,7 @@ returns-2 c =
     let q : length worked ≡ length (take 2482 w) = search needs in
     record {
       kept = enough-words _ _ _ _ (length w) (omega arith) (c .before .before .before .before .before .before .search .ensures);
-      words = wiped-words 2482 w worked _ (omega arith) (q ∙ length-take-le 2482 w (omega arith)) (c .before .before .wipe .ensures);
+      words = wiped-words 2482 w worked _ (omega arith) (q ∙ length-take-le 2482 w (omega arith)) (c .before .before .wipe .ensures ∙ ap (λ n. replicate n 0) (sym (slice-aggregate-wipe (c .before .before .before))));
     }
 
 pub find-extrema-spec : {M : Type 1} → statement M

@@ -46,7 +46,7 @@ same-length : tie.Need-same-length Inv-loop μ-loop
 same-length c = search needs
 
 returns : tie.Need-returns Inv-loop μ-loop
-returns c = zeroed (c .before .before .args .words .now) (c .before .loop .i) 2482 (omega arith) (omega arith) (c .before .loop .inv .1)
+returns c = zeroed (c .before .before .args .words .now) (c .before .loop .i) (length (c .before .before .args .words .now)) (omega arith) refl (c .before .loop .inv .1)
 
 pub wipe-spec : {M : Type 1} → statement M
 wipe-spec =
