@@ -8,3 +8,4 @@ pub mod Given
 pub mod Node
 pub mod Lists
 pub mod Starred
+pub mod Refused

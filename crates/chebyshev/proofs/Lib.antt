@@ -3,3 +3,4 @@ pub mod NodeLaws
 pub mod Sums
 pub mod CoefficientLaws
 pub mod Given
+pub mod Refused

@@ -2,3 +2,4 @@ pub mod BuiltLaws
 pub mod BalanceLaws
 pub mod AnswerLaws
 pub mod Given
+pub mod Refuses

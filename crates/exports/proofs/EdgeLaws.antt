@@ -1,69 +1,36 @@
 -- Adjusted bands as numbers. Assumes nothing.
-use Prim.Native.Nat.{ℕ, zero, suc, _+_, _-_, _*_, _/_, _<_, _≤_}
-use mathlib.Core.Path.{_≡_, refl, sym, ap, _∙_}
-use mathlib.Core.Bool.{Bool, true, false, cond}
-use mathlib.Core.List.{List, [], _∷_, _++_}
+use Prim.Native.Nat.{ℕ, _+_, _-_, _*_, _/_, _<_, _≤_}
+use mathlib.Core.Path.{_≡_, refl, sym}
+use mathlib.Core.Bool.{Bool}
+use mathlib.Core.List.{List, _++_}
 use native.Mathlib.Omega.{arith}
 use borrow.Author.Tests.{le-leb}
-use lib.Dec.{ltb}
-use lib.ListN.{length, getD, drop, replicate, List·getD-append}
-use lib.Ieee.{Float, nan, lt}
+use lib.ListN.{length, drop, replicate, List·getD-append}
+use lib.Ieee.{Float, nan}
 use Rattle.numbers.specs.Floats.{zero64}
 use Rattle.numbers.specs.Loops.{tab}
-use Rattle.numbers.specs.Outcome.{Outcome, refused, gave, unless, bind}
+use Rattle.numbers.specs.Outcome.{Outcome, refused, gave, bind}
 use Rattle.numbers.specs.Refusals.{refusalNumber, verdictOf}
 use Rattle.numbers.specs.declared.Refusal.{Refusal}
-use Rattle.numbers.specs.declared.Verdict.{Verdict}
 use Rattle.numbers.specs.declared.Verdict.the-variants as verdict
 use Rattle.numbers.proofs.LoopLaws.{length-tab}
 use Rattle.numbers.proofs.Lanes.{tab-same}
 use Rattle.bands.specs.declared.Plan.{Plan}
 use Rattle.bands.specs.declared.Symmetry.{Symmetry}
-use Rattle.bands.specs.Lookup.{bandOf}
-use Rattle.bands.specs.Rules.{planHolds}
-use Rattle.bands.proofs.Laws.{holds-most}
 use Rattle.fir_types.specs.declared.edges.Interval.{Interval}
 use Rattle.fir_types.specs.declared.edges.Edges.{Edges}
 use Rattle.fir_types.specs.declared.edges.Adjusted.{Adjusted}
-use Rattle.fir_types.specs.Edges.{interval, moved, kept, adjusted, adjustedFor, listOf, packed, Edged}
+use Rattle.fir_types.specs.Edges.{interval, adjustedFor, listOf, packed, Edged}
+use Rattle.fir_types.proofs.EdgeLaws.{Few, few}
 use Rattle.exports.specs.Answers.{Numbered}
 use Rattle.exports.specs.Plans.{symmetryOf, edgeAt, flat, edgesFor}
-
--- no more bands are kept than there are
-kept-most : (g : ℕ → Interval) (n i : ℕ) → length (kept g n i) ≤ n
-unfolding kept
-kept-most g zero i = omega arith
-kept-most g (suc n) i = go (lt (g i .begin) (g i .end)) (kept-most g n (i + 1))
-  where
-    go : (t : Bool) → length (kept g n (i + 1)) ≤ n → length (cond t (g i ∷ kept g n (i + 1)) (kept g n (i + 1))) ≤ suc n
-    go true h = omega arith
-    go false h = omega arith
-
--- a list that is given is the one behind the two tests
-given-list : {A : Type 0} (t u : Bool) (l m : List A) → gave l ≡ unless t 6 (unless u 8 (gave m)) → (t ≡ true) × (l ≡ m)
-given-list true true l m e = (refl, cc)
-given-list true false l m e = absurd (let z : _≡_ {A = ℕ} 0 1 = cc in omega arith)
-given-list false u l m e = absurd (let z : _≡_ {A = ℕ} 0 1 = cc in omega arith)
-
--- how many intervals there are
-pub record Few (p : Plan) (n : ℕ) : Type 0 where
-  pub bands : n ≤ p .count
-  pub most : n ≤ 8
-
-few : (p : Plan) (s : Symmetry) (odd : Bool) (l : List Interval) → gave l ≡ adjustedFor p s odd → Few p (length l)
-unfolding adjustedFor adjusted
-few p s odd l e =
-    let both : (planHolds p ≡ true) × (l ≡ adjusted p s odd) = given-list (planHolds p) (ltb 0 (length (adjusted p s odd))) l (adjusted p s odd) e in
-    let k : length (adjusted p s odd) ≤ p .count = kept-most (λ i. moved s odd (bandOf p i)) (p .count) 0 in
-    let h : p .count ≤ 8 = holds-most p (both .0) in
-    rw (both .1) (record { bands = k; most = omega (arith, k, h) })
 
 module _ (p : Plan) (s : Symmetry) (odd : Bool) (r : Adjusted) (a : Edged (adjustedFor p s odd) r) where
   taken : r .verdict ≡ verdict.Taken → gave (listOf (adjustedFor p s odd)) ≡ adjustedFor p s odd
   taken h = let k : verdictOf (r .verdict) (listOf (adjustedFor p s odd)) ≡ adjustedFor p s odd = a .is in rw h at k
 
   pub taken-few : r .verdict ≡ verdict.Taken → Few p (r .edges .count)
-  taken-few h = rw (a .edges) (few p s odd (listOf (adjustedFor p s odd)) (taken h))
+  taken-few h = rw (a .edges) (few p s odd (listOf (adjustedFor p s odd)) (sym (taken h)))
 
   pub not-taken : (q : Refusal) → r .verdict ≡ verdict.Refused q → refused (refusalNumber q) ≡ adjustedFor p s odd
   not-taken q h = let k : verdictOf (r .verdict) (listOf (adjustedFor p s odd)) ≡ adjustedFor p s odd = a .is in rw h at k

@@ -4,3 +4,6 @@ pub mod StageLaws
 pub mod ProxyLaws
 pub mod PrunedLaws
 pub mod ExtremaLaws
+pub mod Growth
+pub mod Refused
+pub mod Facts

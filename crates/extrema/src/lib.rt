@@ -2,7 +2,7 @@
 ghost use mathlib.Core.Path.{_≡_};
 ghost use mathlib.Core.List.{[]};
 ghost use Prim.Native.Nat.{_+_, _*_, _/_, _≤_};
-ghost use lib.ListN.{length, take, replicate};
+ghost use lib.ListN.{length, take};
 ghost use Rattle.numbers.specs.Outcome.{bind, gave, sweep};
 ghost use Rattle.numbers.specs.Refusals.{Answers};
 ghost use Rattle.extrema.specs.Errors.{curve};
@@ -190,17 +190,6 @@ fn search(
     }
 }
 
-// The words become zero.
-pub fn wipe(words: &mut [u64])
-    ensures { λ _. ⌜ now (words .exit) ≡ replicate (length (now (words .entry))) 0 ⌝ }
-{
-    let mut i = 0;
-    while i < words.len() {
-        words[i] = 0;
-        i += 1;
-    }
-}
-
 // The n extrema in the subintervals that the exchange goes on with: candidates in rising x with errors of alternating sign. The plan is
 // one that is known to hold; of another, errors are what its lookup gives. The first 2,482 words are worked in, and zero afterwards.
 pub fn find_extrema(
@@ -232,6 +221,6 @@ pub fn find_extrema(
         n,
         &mut words[..2482],
     );
-    wipe(&mut words[..2482]);
+    numbers::wipe(&mut words[..2482]);
     r
 }

@@ -14,6 +14,7 @@ use Rattle.numbers.specs.declared.Verdict.{Verdict}
 use Rattle.numbers.specs.declared.Verdict.the-variants as verdict
 use Rattle.numbers.specs.Outcome.{Outcome, refused, gave, bind}
 use Rattle.numbers.specs.Refusals.{refusalNumber, Answers}
+use Rattle.numbers.proofs.Fronts.{padded-lent}
 use Rattle.numbers.proofs.OutcomeLaws.{bind-next, answers, answers-none, taken-is, taken-refused}
 use Rattle.fir_types.specs.declared.edges.Adjusted.{Adjusted}
 use Rattle.fir_types.specs.Edges.{Edged}
@@ -22,7 +23,6 @@ use Rattle.fields.specs.declared.held.Fields.{Fields}
 use Rattle.fields.specs.Request.{requestFor}
 use Rattle.fields.specs.Interpolant.{Places, Interpolation, places, interpolation, interpolationOf, interpolated, answered, nothing}
 use Rattle.fields.specs.Accept.{countsHold, placesOf, acceptOf, acceptFor}
-use Rattle.fields.proofs.Laws.{padded-front}
 
 module _ {o : Outcome Interpolation} (r : Scalar) (p : Places) (w y : List Float) (a : interpolationOf r p w y ≡ o) where
   pub delta-is : {delta : Float} → r ≡ scalar.Value delta → gave (interpolation p w y delta) ≡ o
@@ -49,15 +49,17 @@ answered-taken o n f x w y delta h p q r s e =
     let k : length (take n (replicate 65 zero64)) ≡ n = length-take-le n (replicate 65 zero64) h in
     answers (bind-next (λ i. gave (answered i)) e
     (λ i. gave (record {
-      freqs = padded-front n f (p ∙ k) i;
-      points = padded-front n x (q ∙ k) i;
-      weights = padded-front n w (r ∙ k) i;
-      abscissas = padded-front n y (s ∙ k) i;
+      freqs = padded-lent 65 zero64 n f (p ∙ k) i;
+      points = padded-lent 65 zero64 n x (q ∙ k) i;
+      weights = padded-lent 65 zero64 n w (r ∙ k) i;
+      abscissas = padded-lent 65 zero64 n y (s ∙ k) i;
       count = sym (q ∙ k) i;
       delta = delta;
     })))
 
-pub answered-nothing : {o : Outcome Interpolant} {v : Verdict} {a : Interpolant} {q : Refusal} → (a ≡ nothing) × (v ≡ verdict.Refused q) → refused (refusalNumber q) ≡ o → Answers nothing o v a
+pub answered-nothing :
+    {o : Outcome Interpolant} {v : Verdict} {a : Interpolant} {q : Refusal} → (a ≡ nothing) × (v ≡ verdict.Refused q) → refused (refusalNumber q) ≡ o
+    → Answers nothing o v a
 answered-nothing h e = rw (h .0, h .1) (answers-none e)
 
 -- ---- what is accepted, test by test

@@ -2,4 +2,6 @@ pub mod Laws
 pub mod PlaceLaws
 pub mod RequestLaws
 pub mod AnswerLaws
-pub mod Signs
+pub mod Chain
+pub mod Facts
+pub mod Refused

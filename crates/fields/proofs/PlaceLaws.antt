@@ -9,7 +9,7 @@ use Rattle.numbers.specs.declared.Verdict.{Verdict}
 use Rattle.numbers.specs.declared.Verdict.the-variants as verdict
 use Rattle.numbers.specs.Outcome.{refused, gave, bind, neededListOf}
 use Rattle.numbers.specs.Refusals.{refusalNumber, verdictOf, Filled}
-use Rattle.numbers.proofs.OutcomeLaws.{bind-next, bind-stop}
+use Rattle.numbers.proofs.OutcomeLaws.{bind-next, bind-stop, verdict-map, whole-is, whole-refused}
 use Rattle.angles.specs.Turns.{cosineOf}
 use Rattle.angles.specs.Arccosine.{arccosineOf}
 use Rattle.fir_types.specs.declared.edges.Edges.{Edges}
@@ -17,7 +17,6 @@ use Rattle.subdivision.specs.First.{firstFor}
 use Rattle.fields.specs.declared.request.Request.{Request}
 use Rattle.fields.specs.Request.{functionsOf, pointsOf}
 use Rattle.fields.specs.Interpolant.{places, each, radiansOf, firstPlaces, givenPlaces}
-use Rattle.fields.proofs.Laws.{whole-is, whole-refused, verdict-map}
 
 module _ (points : List Float) {v : Verdict} {w x : List Float} (leaf : Filled (neededListOf points (length w)) (length points) v w x) (long : length w ≡ length points) where
   pub given-taken : (r : Verdict) (f : List Float) → length x ≡ length w → v ≡ verdict.Taken → verdictOf r f ≡ each arccosineOf x → verdictOf r (places f x) ≡ givenPlaces points

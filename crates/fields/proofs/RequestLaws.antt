@@ -65,6 +65,13 @@ module _ (r : Request) (h : inRange r ≡ true) where
   pub degree-most : r .degree ≤ 16
   degree-most = leb-true (r .degree) 16 (and-2 (taps-test && least-test) most-test degree-tests)
 
+  pub exchanges-most : r .exchanges ≤ 100
+  unfolding inRange
+  exchanges-most =
+      leb-true (r .exchanges) 100
+      (and-2 (taps-test && least-test && most-test) (leb (r .exchanges) mostExchanges)
+      (and-1 (taps-test && least-test && most-test && leb (r .exchanges) mostExchanges) (thresholdHolds (r .threshold)) h))
+
   pub points-least : 3 ≤ pointsOf r
   points-least = let n = functions-range (r .taps) (r .symmetry) taps-hold in omega (arith, n .least)
 

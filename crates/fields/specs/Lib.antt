@@ -1,3 +1,4 @@
 pub mod Request
 pub mod Interpolant
 pub mod Accept
+pub mod Facts

@@ -1,8 +1,6 @@
 ghost use mathlib.Core.Path.{_≡_};
-ghost use mathlib.Core.Bool.{not};
 ghost use Prim.Native.Nat.{_≤_};
 ghost use lib.ListN.{length};
-ghost use Rattle.numbers.specs.Floats.{sign};
 ghost use Rattle.numbers.specs.Outcome.{bind, gave};
 ghost use Rattle.numbers.specs.Refusals.{verdictOf, Answers};
 ghost use Rattle.fields.specs.Request.{pointsOf};
@@ -25,18 +23,12 @@ pub struct Fields {
     pub points: [f64; 65],
 }
 
-fn is_sign_clear(f: f64) -> bool
-    ensures { λ r. ⌜ r ≡ not (sign f) ⌝ }
-{
-    numbers::to_word(f) < 0x8000_0000_0000_0000
-}
-
 fn is_flatness(made: usize, f: f64) -> bool
     ensures { λ r. ⌜ r ≡ flatnessHolds made f ⌝ }
 {
     if 0.0 <= f {
         if f <= 1.0 {
-            if is_sign_clear(f) {
+            if numbers::is_sign_clear(f) {
                 if 0 < made { true } else { f == 0.0 }
             } else {
                 false

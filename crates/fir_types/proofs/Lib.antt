@@ -1,3 +1,4 @@
 pub mod EdgeLaws
 pub mod TapLaws
 pub mod Starred
+pub mod Refused

@@ -1,9 +1,10 @@
 -- Lists that are written from the front: into a longer list, or into one that is filled up with one value. Assumes nothing.
-use Prim.Native.Nat.{ℕ, suc, _+_, _-_, _<_}
+use Prim.Native.Nat.{ℕ, zero, suc, _+_, _-_, _<_}
 use mathlib.Core.Path.{_≡_, refl, sym, ap, _∙_}
 use mathlib.Core.List.{List, [], _∷_, _++_, append-assoc}
 use native.Mathlib.Omega.{arith}
 use native.Mathlib.Numerals.{add-one}
+use native.Mathlib.Nat.{sub-zero, zero-sub, suc-sub-suc}
 use lib.ListN.{length, set, take, drop, replicate, take-append-drop, length-append}
 use lib.Seq.{take-suc-set, drop-set-lt}
 
@@ -37,3 +38,12 @@ padded-more n z l m h =
     ap (λ i. set (l ++ replicate i z) (length l) m) k
     ∙ set-behind l (n - (length l + 1)) z m
     ∙ ap (λ i. (l ++ (m ∷ [])) ++ replicate (n - i) z) (sym (length-more l m))
+
+drop-replicate : {A : Type 0} (n m : ℕ) (z : A) → drop n (replicate m z) ≡ replicate (m - n) z
+drop-replicate zero m z = rw sub-zero
+drop-replicate (suc n) zero z = rw zero-sub
+drop-replicate (suc n) (suc m) z = rw suc-sub-suc (drop-replicate n m z)
+
+-- one whose front was lent and came back
+pub padded-lent : {A : Type 0} (m : ℕ) (z : A) (n : ℕ) (l : List A) → length l ≡ n → l ++ drop n (replicate m z) ≡ l ++ replicate (m - length l) z
+padded-lent m z n l e = ap (λ k. l ++ k) (drop-replicate n m z) ∙ rw (← e)

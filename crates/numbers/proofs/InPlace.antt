@@ -41,6 +41,10 @@ map-tab h l d =
     tab-own (map h l) (h d) (length l) (length-map l h)
     ∙ tab-same (λ k. getD (map h l) k (h d)) (λ k. h (getD l k d)) (length l) 0 (λ k a b. List·getD-map h l k d)
 
+-- every entry by h alone
+pub map-here : {A : Type 0} (h : A → A) (d : A) (n : ℕ) (l : List A) → length l ≡ n → Going (change (λ k. h) d) n 0 l (map h l)
+map-here h d n l e = rw (map-tab h l d, e) (change-start (λ k. h) d n l (sym e))
+
 -- ---- two lists as one of both
 module _ {A B C : Type 0} (g : A → B → C) where
   pub zip-length : (b : List A) (c : List B) → length b ≡ length c → length (zipWith g b c) ≡ length b

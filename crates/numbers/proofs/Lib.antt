@@ -5,6 +5,7 @@ pub mod Fronts
 pub mod MapLaws
 pub mod OutcomeLaws
 pub mod Given
+pub mod Refusing
 pub mod Unique
 pub mod Order
 pub mod Value

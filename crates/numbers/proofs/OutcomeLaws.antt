@@ -1,7 +1,7 @@
 -- Outcomes in the proofs of code: what a match on an answer tells is an outcome, a return in a chain of binds, and a loop
 -- that stops at the first refusal. `chains` is the ruleset for `search`. Assumes nothing.
 use Prim.Native.Nat.{ℕ, suc, _+_, _-_, _<_, _≤_}
-use mathlib.Core.Path.{_≡_, refl, sym, _∙_}
+use mathlib.Core.Path.{_≡_, refl, sym, ap, _∙_}
 use mathlib.Core.Bool.{Bool, true, false}
 use mathlib.Core.List.{List, [], _∷_, _++_, append-assoc, append-nil}
 use native.Mathlib.Omega.{arith}
@@ -9,7 +9,7 @@ use native.Mathlib.Numerals.{add-one}
 use lib.Ieee.{Float}
 use native.Mathlib.Nat.{sub-zero}
 use lib.ListN.{length, getD, set, take, drop, drop-of-length-le, length-append}
-use lib.Seq.{drop-cons, take-at, take-suc-set}
+use lib.Seq.{drop-cons, take-at, take-all, take-suc-set}
 use borrow.Author.Needs.{needs}
 use Rattle.numbers.specs.declared.Refusal.{Refusal}
 use Rattle.numbers.specs.declared.Scalar.{Scalar}
@@ -61,6 +61,18 @@ answers-none e = record { is = e; value = rw (← e) }
 pub answers : {A : Type 0} {none a : A} {o : Outcome A} → gave a ≡ o → Answers none o verdict.Taken a
 answers e = record { is = e; value = rw (← e) }
 
+-- ---- a verdict beside another value, or beside none
+pub verdict-map : {A B : Type 0} (h : A → B) (r : Verdict) (a : A) → verdictOf r (h a) ≡ bind (verdictOf r a) (λ z. gave (h z))
+verdict-map h verdict.Taken a = refl
+verdict-map h (verdict.Refused q) a = refl
+
+pub verdict-alone : {A : Type 0} {o : Outcome A} (r : Verdict) (a : A) → verdictOf r a ≡ o → verdictOf r (tt {0}) ≡ bind o (λ z. gave tt)
+verdict-alone r a e = rw (← e) (verdict-map (λ z. tt) r a)
+
+pub bind-map : {A B C : Type 0} (o : Outcome A) (h : A → B) (c : C) → bind (bind o (λ a. gave (h a))) (λ b. gave c) ≡ bind o (λ a. gave c)
+bind-map (refused n) h c = refl
+bind-map (gave a) h c = refl
+
 -- ---- an answer's case, as a match finds it
 module _ {o : Outcome Float} {r : Scalar} (a : scalarOf r ≡ o) where
   pub value-is : {x : Float} → r ≡ scalar.Value x → gave x ≡ o
@@ -82,6 +94,16 @@ module _ {A : Type 0} {o : Outcome (List A)} {n : ℕ} {r : Verdict} {w w' : Lis
 
   pub filled-refused : {q : Refusal} → r ≡ verdict.Refused q → refused (refusalNumber q) ≡ o
   filled-refused e = let k : verdictOf r (take n w') ≡ o = a .is in rw e at k
+
+-- a list that is filled whole, m of them
+module _ {A : Type 0} {n : ℕ} {r : Verdict} {w w' : List A} (o : ℕ → Outcome (List A)) (m : ℕ) (a : Filled (o (length w)) n r w w') (long : length w ≡ m) where
+  pub whole-is : n ≡ m → length w' ≡ length w → r ≡ verdict.Taken → gave w' ≡ o m
+  whole-is e h t =
+      let k : length w' ≤ m = omega (arith, long, h) in
+      ap (λ z. gave z) (sym (take-all m w' k)) ∙ filled-is a m e t ∙ ap o long
+
+  pub whole-refused : {q : Refusal} → r ≡ verdict.Refused q → refused (refusalNumber q) ≡ o m
+  whole-refused t = filled-refused a t ∙ ap o long
 
 module _ {A : Type 0} {o : Outcome (List A)} {r : Count} {w w' : List A} (a : Wrote o r w w') where
   pub count-is : {n : ℕ} → r ≡ count.Of n → gave (take n w') ≡ o

@@ -1,12 +1,16 @@
--- What is written for a number reads back as the number, and what is read can always be written. Assumes nothing.
-use Prim.Native.Nat.{ℕ, _<_, _≤_, _%_}
+-- What is written for a number reads back as the number, what is read can always be written, and the highest bit is the sign.
+-- Assumes nothing.
+use Prim.Native.Nat.{ℕ, zero, suc, _+_, _<_, _≤_, _%_}
+use native.Mathlib.Omega.{arith}
 use borrow.Author.Tests.{lt-ltb, le-ltb}
 use mathlib.Core.Path.{_≡_, refl, ap, sym, _∙_, subst}
 use mathlib.Core.Bool.{Bool, true, false, cond, not}
-use lib.Dec.{T}
+use lib.Dec.{T, ltb}
+use lib.IntN.{ℤ}
 use lib.Ieee.{Float, nan, inf, fin, binary64, ofBits, toBits, nanBits, isNan, fits, ne}
-use lib.Ieee.Bits.{ofBits-toBits, ofBits-fits, nanBits-is, nanBits-above, is-false, is-true}
+use lib.Ieee.Bits.{ofBits-toBits, toBits-lt, ofBits-fits, nanBits-is, nanBits-above, is-false, is-true}
 use lib.Ieee.Compare.{differs-from-itself}
+use Rattle.numbers.specs.Floats.{sign}
 use Rattle.numbers.specs.Words.{ofWord, toWord}
 
 pub back : (x : Float) → T (fits binary64 x) → T (not (isNan x)) → ofWord (toWord x) ≡ x
@@ -71,3 +75,23 @@ module _ (w : ℕ) where
   pub number-word : w % 0x8000_0000_0000_0000 ≤ 0x7ff0_0000_0000_0000 → ofBits binary64 w ≡ ofWord w
   unfolding ofWord
   number-word h = rw (plain h)
+
+-- ---- the sign is added to the word without it
+signed : (m : ℕ) (e : ℤ) → toBits binary64 (fin true m e) ≡ 0x8000_0000_0000_0000 + toBits binary64 (fin false m e)
+unfolding toBits
+signed m e = omega arith
+
+fits-signed : (s : Bool) (m : ℕ) (e : ℤ) → T (fits binary64 (fin s m e)) → T (fits binary64 (fin true m e))
+unfolding fits
+fits-signed s zero e h = h
+fits-signed s (suc m) e h = h
+
+-- so it is the highest bit
+pub sign-word : (x : Float) → T (fits binary64 x) → ltb (toWord x) 0x8000_0000_0000_0000 ≡ not (sign x)
+unfolding toWord isNan sign toBits
+sign-word nan h = refl
+sign-word (inf true) h = refl
+sign-word (inf false) h = refl
+sign-word (fin true m e) h = le-ltb (toBits binary64 (fin true m e)) 0x8000_0000_0000_0000 (omega (arith, signed m e))
+sign-word (fin false m e) h =
+    lt-ltb (toBits binary64 (fin false m e)) 0x8000_0000_0000_0000 (omega (arith, signed m e, toBits-lt binary64 (fin true m e) (fits-signed false m e h)))

@@ -1,11 +1,12 @@
 ghost use mathlib.Core.Path.{_≡_};
+ghost use mathlib.Core.Bool.{not};
 ghost use lib.IntN.{pos};
 ghost use Prim.Native.Nat.{_<_, _≤_};
 ghost use mathlib.Core.List.{_++_};
-ghost use lib.ListN.{length, getD, drop};
+ghost use lib.ListN.{length, getD, drop, replicate};
 ghost use lib.Ieee.{nan, binary64, ofInt};
 ghost use lib.Ieee.Scale.{finite};
-ghost use Rattle.numbers.specs.Floats.{faultOf, allFinite, magnitudeOf, normal, lesser, clamp};
+ghost use Rattle.numbers.specs.Floats.{sign, faultOf, allFinite, magnitudeOf, normal, lesser, clamp};
 ghost use Rattle.numbers.specs.Refusals.{refusalNumber, scalarOf, Filled};
 ghost use Rattle.numbers.specs.Outcome.{neededOf, neededListOf};
 ghost use Rattle.numbers.specs.Words.{ofWord, toWord};
@@ -196,4 +197,22 @@ pub fn to_word(x: f64) -> u64
         return 0;
     }
     f64::to_bits(x)
+}
+
+// The sign bit is clear: that of -0.0 is not, and a NaN has none.
+pub fn is_sign_clear(x: f64) -> bool
+    ensures { λ r. ⌜ r ≡ not (sign x) ⌝ }
+{
+    to_word(x) < 0x8000_0000_0000_0000
+}
+
+// The words become zero.
+pub fn wipe(words: &mut [u64])
+    ensures { λ _. ⌜ now (words .exit) ≡ replicate (length (now (words .entry))) 0 ⌝ }
+{
+    let mut i = 0;
+    while i < words.len() {
+        words[i] = 0;
+        i += 1;
+    }
 }

@@ -7,3 +7,4 @@ pub mod Cases
 pub mod ViewLaws
 pub mod Sorted
 pub mod SortLaws
+pub mod Refused

@@ -5,3 +5,4 @@ pub mod Given
 pub mod Middle
 pub mod Inside
 pub mod Rising
+pub mod Refused

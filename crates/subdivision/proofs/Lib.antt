@@ -2,3 +2,4 @@ pub mod WalkLaws
 pub mod Bound
 pub mod CutLaws
 pub mod Cases
+pub mod FirstLaws

@@ -9,10 +9,14 @@ is-sign-clear-requires : tie.Need-is-sign-clear-requires
 is-sign-clear-requires c κs = search needs
 
 returns : tie.Need-returns
-returns c = rw (c .before .before .before .before .if1 .taken, c .before .before .before .if2 .taken, sym (c .before .before .is-sign-clear .ensures) ∙ c .before .if3 .taken, lt-ltb _ _ (c .if4 .taken))
+returns c =
+    let test = c .before .before in
+    rw (test .before .before .if1 .taken, test .before .if2 .taken, sym (test .is-sign-clear .ensures) ∙ c .before .if3 .taken, lt-ltb _ _ (c .if4 .taken))
 
 returns-2 : tie.Need-returns-2
-returns-2 c = rw (c .before .before .before .before .if1 .taken, c .before .before .before .if2 .taken, sym (c .before .before .is-sign-clear .ensures) ∙ c .before .if3 .taken, le-ltb _ _ (c .if4 .left))
+returns-2 c =
+    let test = c .before .before in
+    rw (test .before .before .if1 .taken, test .before .if2 .taken, sym (test .is-sign-clear .ensures) ∙ c .before .if3 .taken, le-ltb _ _ (c .if4 .left))
 
 returns-3 : tie.Need-returns-3
 returns-3 c = rw (c .before .before .before .if1 .taken, c .before .before .if2 .taken, sym (c .before .is-sign-clear .ensures) ∙ c .if3 .left)

@@ -32,8 +32,9 @@ returns : tie.Need-returns
 returns c =
     let first = c .before .before .before .before .before .before .before .before .before in
     let entry = first .before .before .before .before .before .before in
-    first-taken (entry .args .request) (entry .args .bands) _ _ (first .initial-extremal-freqs .ensures) (first .before .before .before .radians-of .ensures) (first .before .before .functions .ensures)
-    (entry .pre .0) (c .before .before .cosines .result) _ (search needs) (c .before .before .before .before .before .enum-told .given .1) (c .before .before .cosines .ensures)
+    first-taken (entry .args .request) (entry .args .bands) _ _ (first .initial-extremal-freqs .ensures)
+    (first .before .before .before .radians-of .ensures) (first .before .before .functions .ensures) (entry .pre .0)
+    (c .before .before .cosines .result) _ (search needs) (c .before .before .before .before .before .enum-told .given .1) (c .before .before .cosines .ensures)
 
 same-length-3 : tie.Need-same-length-3
 same-length-3 c = search needs
@@ -42,8 +43,8 @@ returns-2 : tie.Need-returns-2
 returns-2 c =
     let first = c .before .before .before .before .before in
     let entry = first .before .before .before .before .before .before in
-    first-refused (entry .args .request) (entry .args .bands) _ _ (first .initial-extremal-freqs .ensures) (first .before .before .before .radians-of .ensures) (first .before .before .functions .ensures)
-    (entry .pre .0) (c .before .why .given .1)
+    first-refused (entry .args .request) (entry .args .bands) _ _ (first .initial-extremal-freqs .ensures)
+    (first .before .before .before .radians-of .ensures) (first .before .before .functions .ensures) (entry .pre .0) (c .before .why .given .1)
 
 pub first-places-spec : {M : Type 1} → statement M
 first-places-spec =

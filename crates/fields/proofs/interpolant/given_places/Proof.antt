@@ -26,7 +26,8 @@ returns : tie.Need-returns
 returns c =
     let needed = c .before .before .before .before .before .before .before .before .before in
     let entry = needed .before .before .before .before .before in
-    given-taken (entry .args .points .now) (needed .needed-list .ensures) (entry .pre .1) (c .before .before .arccosines .result) _ (search needs) (c .before .before .before .before .before .enum-told .given .1)
+    given-taken (entry .args .points .now) (needed .needed-list .ensures) (entry .pre .1) (c .before .before .arccosines .result) _ (search needs)
+    (c .before .before .before .before .before .enum-told .given .1)
     (c .before .before .arccosines .ensures)
 
 same-length-3 : tie.Need-same-length-3

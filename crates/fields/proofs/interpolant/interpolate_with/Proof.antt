@@ -1,11 +1,10 @@
 -- `fields::interpolant::interpolate_with` meets its contract. Assumes nothing.
 use mathlib.Core.Path.{refl, sym, _∙_}
 use borrow.Author.Tests.{not-true, not-false}
-use Rattle.numbers.proofs.OutcomeLaws.{bind-next, bind-stop, value-is, value-refused, taken-is, taken-refused}
+use Rattle.numbers.proofs.OutcomeLaws.{bind-next, bind-stop, value-is, value-refused, taken-is, taken-refused, whole-is, whole-refused}
 use Rattle.barycentric.specs.Weights.{weightsFor}
 use Rattle.barycentric.specs.Abscissas.{abscissasFor}
 use Rattle.fields.specs.Interpolant.{interpolated}
-use Rattle.fields.proofs.Laws.{whole-is, whole-refused}
 use borrow.Author.Needs.{needs}
 use Rattle.fields.proofs.interpolant.interpolate_with.Statement.{statement}
 use Rattle.fields.proofs.interpolant.interpolate_with.Tie as tie
@@ -151,7 +150,8 @@ returns-5 c =
     (bind-next _ (taken-is _ (desired .desired-values .ensures) (wished .enum-told2 .given .1))
     (bind-next _ (taken-is _ (errors .error-weights .ensures) (missed .enum-told3 .given .1))
     (bind-next _ (value-is (quotient .compute-delta .ensures) (divided .delta .given .1))
-    (bind-next _ (whole-is (abscissasFor _ _ _) _ (abscissas .compute-lagrange-abscisa .ensures) (entry .pre .0 .abscissas) (same-length-9 c ∙ entry .pre .1) (same-length-8 c) (c .enum-told4 .given .1)) refl)))))
+    (bind-next _ (whole-is (abscissasFor _ _ _) _ (abscissas .compute-lagrange-abscisa .ensures) (entry .pre .0 .abscissas)
+    (same-length-9 c ∙ entry .pre .1) (same-length-8 c) (c .enum-told4 .given .1)) refl)))))
 
 same-length-11 : tie.Need-same-length-11
 same-length-11 c = search needs

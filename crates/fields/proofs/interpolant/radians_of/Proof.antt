@@ -5,9 +5,8 @@ use mathlib.Core.List.{map}
 use lib.ListN.{length, set, length-set, length-map}
 use lib.Ieee.{nan}
 use Rattle.numbers.proofs.LoopLaws.{Going, next, end}
-use Rattle.numbers.proofs.InPlace.{change}
+use Rattle.numbers.proofs.InPlace.{change, map-here}
 use Rattle.fir_types.specs.Edges.{interval, inRadians}
-use Rattle.fields.proofs.Laws.{map-here}
 use borrow.Author.Needs.{needs}
 use Rattle.fields.proofs.interpolant.radians_of.Statement.{statement}
 use Rattle.fields.proofs.interpolant.radians_of.Tie as tie

@@ -15,7 +15,9 @@ nothing-requires : tie.Need-nothing-requires
 nothing-requires c κs = search needs
 
 returns : tie.Need-returns
-returns c = answered-nothing (c .nothing .ensures) (counts-stop (c .before .before .before .before .args .self) (sym (c .before .before .do-counts-hold .ensures) ∙ not-true _ (c .before .if1 .taken)))
+returns c =
+    answered-nothing (c .nothing .ensures)
+    (counts-stop (c .before .before .before .before .args .self) (sym (c .before .before .do-counts-hold .ensures) ∙ not-true _ (c .before .if1 .taken)))
 
 bands-requires : tie.Need-bands-requires
 bands-requires c κs = search needs

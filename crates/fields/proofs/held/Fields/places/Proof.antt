@@ -42,7 +42,11 @@ same-length-4 : tie.Need-same-length-4
 same-length-4 c = search needs
 
 returns-2 : tie.Need-returns-2
-returns-2 c = rw (ne-eqb _ _ (c .before .before .before .before .before .before .before .before .before .if1 .left), ← c .before .before .before .before .before .before .before .before .before .before .before .before .before .before .pre .1) (c .before .before .before .before .given-places .ensures)
+returns-2 c =
+    let given = c .before .before .before .before in
+    let test = given .before .before .before .before .before in
+    let entry = test .before .before .before .before .before in
+    rw (ne-eqb _ _ (test .if1 .left), ← entry .pre .1) (given .given-places .ensures)
 
 pub places-spec : {M : Type 1} → statement M
 places-spec =

@@ -1,6 +1,6 @@
 -- `fields::request::Request::new` meets its contract. Assumes nothing.
 use mathlib.Core.Path.{refl}
-use Rattle.fields.proofs.Laws.{verdict-alone}
+use Rattle.numbers.proofs.OutcomeLaws.{verdict-alone}
 use borrow.Author.Needs.{needs}
 use Rattle.fields.proofs.request.Request.new.Statement.{statement}
 use Rattle.fields.proofs.request.Request.new.Tie as tie

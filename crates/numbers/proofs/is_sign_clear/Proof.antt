@@ -1,8 +1,8 @@
--- `fields::held::is_sign_clear` meets its contract. Assumes nothing.
-use Rattle.fields.proofs.Signs.{sign-word}
+-- `numbers::is_sign_clear` meets its contract. Assumes nothing.
+use Rattle.numbers.proofs.WordLaws.{sign-word}
 use borrow.Author.Needs.{needs}
-use Rattle.fields.proofs.held.is_sign_clear.Statement.{statement}
-use Rattle.fields.proofs.held.is_sign_clear.Tie as tie
+use Rattle.numbers.proofs.is_sign_clear.Statement.{statement}
+use Rattle.numbers.proofs.is_sign_clear.Tie as tie
 
 to-word-requires : tie.Need-to-word-requires
 to-word-requires c κs = search needs

@@ -1,4 +1,4 @@
--- `extrema::wipe` meets its contract. Assumes nothing.
+-- `numbers::wipe` meets its contract. Assumes nothing.
 use Prim.Native.Nat.{ℕ, _-_, _≤_}
 use mathlib.Core.Path.{_≡_, refl, ap, _∙_}
 use mathlib.Core.List.{List, _++_, append-nil}
@@ -6,8 +6,8 @@ use native.Mathlib.Omega.{arith}
 use borrow.Author.Fill.{fill-more}
 use lib.ListN.{length, drop, replicate, set, length-set, drop-of-length-le}
 use borrow.Author.Needs.{needs}
-use Rattle.extrema.proofs.wipe.Statement.{statement}
-use Rattle.extrema.proofs.wipe.Tie as tie
+use Rattle.numbers.proofs.wipe.Statement.{statement}
+use Rattle.numbers.proofs.wipe.Tie as tie
 
 -- over any number of words
 zeroed : (w : List ℕ) (i n : ℕ) {z : List ℕ} → i ≡ n → length w ≡ n → z ≡ replicate i 0 ++ drop i w → z ≡ replicate n 0
