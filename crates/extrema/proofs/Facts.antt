@@ -1,14 +1,14 @@
 -- What a search gives, on the definitions alone: n candidates whose errors alternate in sign, each at a finite place from -1 to 1 with
--- a finite error. (Which refusals it can be: `extrema-refuse` of proofs/Refused.) Assumes nothing.
+-- a finite error that is a number of 64 bits. (Which refusals it can be: `extrema-refuse` of proofs/Refused.) Assumes nothing.
 use Prim.Native.Nat.{ℕ, zero, suc, _+_, _≤_, _<_}
 use mathlib.Core.Path.{_≡_, refl, _∙_}
 use mathlib.Core.Bool.{Bool, true, false, cond}
 use mathlib.Core.List.{List, [], _∷_, _++_, map}
 use native.Mathlib.Omega.{arith}
 use native.Mathlib.Nat.{zero-add}
-use lib.Dec.{eqb}
+use lib.Dec.{T, eqb}
 use lib.ListN.{length, getD, length-map}
-use lib.Ieee.{Float, nan, neg, lt, le, isNan, ofBits}
+use lib.Ieee.{Float, nan, binary64, neg, lt, le, isNan, ofBits, fits}
 use lib.Ieee.Scale.{finite}
 use Rattle.numbers.specs.Floats.{zero64, one64, Inside}
 use Rattle.numbers.specs.Loops.{tab}
@@ -40,14 +40,15 @@ use Rattle.extrema.proofs.ErrorLaws.{errors-given}
 pub record Placed (c : Candidate) : Type 0 where
   pub inside : Inside (neg one64) one64 (c .x)
   pub known : finite (c .error) ≡ true
+  pub fit : T (fits binary64 (c .error))
 
 unfoldable EachPlaced : List Candidate → Type 0
 EachPlaced [] = Unit {0}
 EachPlaced (c ∷ l) = Placed c × EachPlaced l
 
 none-placed : Placed none
-unfolding isNan le ofBits neg
-none-placed = record { inside = record { number = refl; least = refl; most = refl }; known = refl }
+unfolding isNan le ofBits neg fits
+none-placed = record { inside = record { number = refl; least = refl; most = refl }; known = refl; fit = tt }
 
 -- past the end stands none, which is placed too
 placed-at : (l : List Candidate) (i : ℕ) → EachPlaced l → Placed (getD l i none)
@@ -107,7 +108,7 @@ module _ (c : Curve) where
   joined-placed places e q =
       let g = errors-given c places e q in
       placed-tab (λ i. candidate (getD places i nan) (getD e i nan)) (length places) 0
-      (λ k a b. record { inside = errors-inside places e q k (below k b); known = finite-at e k (g .errors-are) (omega (arith, below k b, g .long)) })
+      (λ k a b. record { inside = errors-inside places e q k (below k b); known = finite-at e k (g .errors-are) (omega (arith, below k b, g .long)); fit = g .errors-fit k (below k b) })
     where
       below : (k : ℕ) → k < 0 + length places → k < length places
       below k h = omega arith
@@ -182,6 +183,7 @@ pub record Gives (n : ℕ) (l : List Candidate) : Type 0 where
   pub inside : (i : ℕ) → i < length l → Inside (neg one64) one64 (getD l i none .x)
   pub place : (i : ℕ) → i < length l → finite (getD l i none .x) ≡ true
   pub error : (i : ℕ) → i < length l → finite (getD l i none .error) ≡ true
+  pub fit : (i : ℕ) → i < length l → T (fits binary64 (getD l i none .error))
 
 pub extrema-given : (c : Curve) (vs : List Interval) (degree n : ℕ) (l : List Candidate) → extremaOf c vs degree n ≡ gave l → Gives n l
 unfolding extremaOf prunedTo keptOf
@@ -201,4 +203,5 @@ extrema-given c vs degree n l q =
       inside = λ i h. placed-at (map at (k .value)) i p .inside;
       place = λ i h. inside-finite (neg one64) one64 (getD (map at (k .value)) i none .x) least-finite most-finite (placed-at (map at (k .value)) i p .inside);
       error = λ i h. placed-at (map at (k .value)) i p .known;
+      fit = λ i h. placed-at (map at (k .value)) i p .fit;
     })
