@@ -186,7 +186,12 @@ fn write_rows(page: &mut Page, rows: &[Vec<f64>]) {
 /// Degrees 16, then 2 to 15 one after another. The Rust panics where one coefficient is left.
 pub fn colleague(c: &mut Chance, index: usize, page: &mut Page) {
     let degree = 2 + (14 + index) % 15;
-    let cosines = cosines(&wanted(c, degree));
+    write_colleague(page, &wanted(c, degree));
+}
+
+/// Wanted coefficients as close as they can be fed, and the matrix.
+pub fn write_colleague(page: &mut Page, wanted: &[f64]) {
+    let cosines = cosines(wanted);
     page.numbers("coefficients", &derivative(&cosines));
     match balanced(&cosines) {
         Ok(balanced) => {

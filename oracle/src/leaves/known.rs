@@ -1,11 +1,11 @@
-//! The cases that document 01 lists, "Cases", asked of the Rust.
+//! The cases that document 01 lists, "Cases", and the smallest of two differences (docs/DIFFERENCES.md), asked of the Rust.
 
 use pm_remez::Symmetry;
 
-use super::{barycentric, extrema, fir_types};
+use super::{barycentric, colleague, extrema, fir_types};
 use crate::text::Page;
 
-/// Writes 01's cases for the leaves.
+/// Writes the named cases for the leaves.
 pub fn known(page: &mut Page) {
     let leaf = |page: &mut Page, name: &str| page.line(format_args!("leaf {name}"));
 
@@ -46,4 +46,13 @@ pub fn known(page: &mut Page) {
     fir_types::write_taps(page, 4, Symmetry::Odd, &[1.0, 2.0]);
     leaf(page, "taps");
     fir_types::write_taps(page, 7, Symmetry::Odd, &[1.0, 2.0, 4.0]);
+
+    // One coefficient is left; and a 65th pass.
+    leaf(page, "colleague");
+    colleague::write_colleague(page, &[1.0, 0.0]);
+    leaf(page, "colleague");
+    let mut far = [0.0; 13];
+    far[8..11].fill(2f64.powi(1000));
+    far[12] = 1.0;
+    colleague::write_colleague(page, &far);
 }
