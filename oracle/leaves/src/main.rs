@@ -65,7 +65,7 @@ fn compare(leaf: usize, count: usize, seed: u64, filter: &mut Proved) -> Result<
             }
             let wrote = match &said.outcome {
                 Gave(told) => answer.wrote(&told.counts, &told.words),
-                // The sort refuses nothing and leaves no word of a refused call to look at.
+                // Only the sort's output is not blank before the call, and it refuses nothing.
                 Refused(_) => answer.wrote(&[], &[]),
             };
             if answer.number != number || !wrote {
