@@ -5,6 +5,7 @@ use mathlib.Core.Bool.{Bool, true, false, cond, _&&_}
 use mathlib.Core.List.{List, [], _∷_}
 use lib.Dec.{eqb, leb, ltb}
 use lib.Ieee.{Float, nan}
+use lib.Ieee.Scale.{finite}
 use lib.ListN.{length, getD, take, set}
 use Rattle.numbers.specs.Floats.{allFinite}
 use Rattle.numbers.specs.Words.{ofWord, toWord}
@@ -74,9 +75,13 @@ pub record ReadInto (x : Reading) (r : Span) (w' : List Float) : Type 0 where
   pub is : r ≡ x .told
   pub out : w' ≡ x .list
 
+-- finite numbers of the same bits
+abbrev pub sameNumber : Float → Float → Bool
+sameNumber a b = finite a && finite b && eqb (toWord a) (toWord b)
+
 -- place i of both lists is there, and holds the same bits
 abbrev pub sameBits : List Float → List Float → ℕ → Bool
-sameBits a b i = ltb i (length a) && ltb i (length b) && eqb (toWord (getD a i nan)) (toWord (getD b i nan))
+sameBits a b i = ltb i (length a) && ltb i (length b) && sameNumber (getD a i nan) (getD b i nan)
 
 -- the first n are there and finite
 abbrev pub finiteFront : List Float → ℕ → Bool

@@ -1,13 +1,8 @@
 // Stored cases as the gate's programs replay them: words, whole numbers and lists of numbers by their bits (oracle/README.md has the
 // format). What cannot be read is told by `good`.
 ghost use mathlib.Core.Path.{_≡_};
-ghost use mathlib.Core.Bool.{_&&_};
-ghost use lib.Dec.{eqb, ltb};
-ghost use lib.Ieee.{nan};
-ghost use lib.ListN.{length, getD};
 ghost use Rattle.numbers.specs.Loops.{every};
-ghost use Rattle.numbers.specs.Words.{toWord};
-ghost use Rattle.cases.specs.Cases.{nothing, pastOf, wholeAt, numberIn, numbersAt, listAt, ReadInto, sameBits, finiteFront, caseOf};
+ghost use Rattle.cases.specs.Cases.{nothing, pastOf, wholeAt, numberIn, numbersAt, listAt, ReadInto, sameNumber, sameBits, finiteFront, caseOf};
 use text::Digits;
 use text::Token;
 
@@ -107,10 +102,16 @@ pub fn list_into(s: &[u8], at: usize, out: &mut [f64]) -> Span
     }
 }
 
-// The same bits; every NaN counts as 0.0, and is the leaves' refusal 9 before it is compared.
+// Finite numbers of the same bits. Nothing is the same as a number that is not finite, which no leaf gives.
 pub fn is_same(a: f64, b: f64) -> bool
-    ensures { λ r. ⌜ r ≡ eqb (toWord a) (toWord b) ⌝ }
+    ensures { λ r. ⌜ r ≡ sameNumber a b ⌝ }
 {
+    if !numbers::is_finite(a) {
+        return false;
+    }
+    if !numbers::is_finite(b) {
+        return false;
+    }
     numbers::to_word(a) == numbers::to_word(b)
 }
 
