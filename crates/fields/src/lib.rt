@@ -5,6 +5,7 @@ mod interpolant;
 mod request;
 
 pub use held::Fields;
+pub use held::do_counts_hold;
 pub use interpolant::Interpolant;
 pub use interpolant::Interpolated;
 pub use interpolant::radians_of;

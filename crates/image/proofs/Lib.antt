@@ -1,0 +1,4 @@
+pub mod BytesLaws
+pub mod Laying
+pub mod LayoutLaws
+pub mod SavedLaws

@@ -1,0 +1,33 @@
+-- `image::bytes::four_at` meets its contract. Assumes nothing.
+use mathlib.Core.Path.{sym}
+use native.Mathlib.Omega.{arith}
+use Rattle.image.proofs.BytesLaws.{four-is}
+use borrow.Author.Needs.{needs}
+use Rattle.image.proofs.bytes.four_at.Statement.{statement}
+use Rattle.image.proofs.bytes.four_at.Tie as tie
+
+two-at-requires : tie.Need-two-at-requires
+two-at-requires c κs = search needs
+
+add-two-at : tie.Need-add-two-at
+add-two-at c = search needs
+
+two-at-requires-2 : tie.Need-two-at-requires-2
+two-at-requires-2 c κs = search needs
+
+mul-result : tie.Need-mul-result
+mul-result c = search needs
+
+add-result : tie.Need-add-result
+add-result c = search needs
+
+returns : tie.Need-returns
+returns c =
+    let w = c .before .before .before .args in
+    let a = c .before .two-at .ensures in
+    let b = c .two-at2 .ensures in
+    (rw (a .0, b .0) (sym (four-is (w .s .now) (w .i))), omega (arith, a .1, b .1))
+
+pub four-at-spec : {M : Type 1} → statement M
+four-at-spec =
+    tie.close (tie.spec two-at-requires add-two-at two-at-requires-2 mul-result add-result returns)

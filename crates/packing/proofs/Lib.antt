@@ -1,0 +1,4 @@
+pub mod Laws
+pub mod Sound
+pub mod Places
+pub mod RoundTrip

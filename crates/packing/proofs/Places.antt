@@ -1,0 +1,90 @@
+-- Where each word of the fields stands, and that words of alike fields are the same. Assumes nothing.
+use Prim.Native.Nat.{ℕ, _+_, _*_, _/_, _%_, _<_, _≤_}
+use mathlib.Core.Path.{_≡_, refl, sym, ap, _∙_}
+use mathlib.Core.Bool.{Bool, true, false, cond}
+use mathlib.Core.List.{List, _++_}
+use native.Mathlib.Omega.{arith}
+use borrow.Author.Tests.{ltb-true}
+use lib.Dec.{ltb, eqb}
+use lib.ListN.{length, getD, take, List·getD-append}
+use lib.Seq.{getD-append-add, getD-take}
+use lib.Ieee.{Float, nan}
+use Rattle.numbers.specs.Loops.{tab}
+use Rattle.numbers.specs.Words.{toWord}
+use Rattle.numbers.proofs.LoopLaws.{length-tab}
+use Rattle.numbers.proofs.Lanes.{tab-same, tab-get}
+use Rattle.bands.specs.declared.Band.{Band}
+use Rattle.bands.specs.declared.Plan.{Plan}
+use Rattle.bands.specs.Lookup.{bandOf}
+use Rattle.fields.specs.declared.held.Fields.{Fields}
+use Rattle.packing.specs.Packing.{at, bandAt, pointAt, bandWords, bandsWord, pointsHeld, pointWord, headWords, wordsOf}
+use Rattle.packing.specs.Alike.{Alike}
+
+abbrev bandsPart : Fields → List ℕ
+bandsPart j = tab (λ k. bandsWord (j .request .plan) (k / 8) (k % 8)) 64 0
+
+abbrev pointsPart : Fields → List ℕ
+pointsPart j = tab (pointWord j) 65 0
+
+-- behind the head
+behind-head : (j : Fields) (k m : ℕ) → m ≡ 8 + k → at (wordsOf j) m ≡ getD (bandsPart j ++ pointsPart j) k 0
+unfolding wordsOf
+behind-head j k m e = rw e (getD-append-add (headWords j) (bandsPart j ++ pointsPart j) k 0)
+
+-- word k of band i
+pub band-word : (j : Fields) (i k : ℕ) → i < 8 → k < 8 → (m : ℕ) → m ≡ bandAt i + k → at (wordsOf j) m ≡ bandsWord (j .request .plan) i k
+band-word j i k hi hk m e =
+    let f : ℕ → ℕ = λ k. bandsWord (j .request .plan) (k / 8) (k % 8) in
+    let z : m ≡ 8 + (8 * i + k) = omega arith in
+    let n : 8 * i + k < length (bandsPart j) = rw (length-tab f 64 0) (omega arith) in
+    let q : (8 * i + k) / 8 ≡ i = omega arith in
+    let r : (8 * i + k) % 8 ≡ k = omega arith in
+    behind-head j (8 * i + k) m z
+    ∙ List·getD-append (bandsPart j) (pointsPart j) 0 (8 * i + k) n
+    ∙ tab-get f 64 (8 * i + k) 0 (omega arith)
+    ∙ rw (q, r)
+
+pub point-word : (j : Fields) (i : ℕ) → i < 65 → at (wordsOf j) (pointAt i) ≡ pointWord j i
+point-word j i h =
+    let f : ℕ → ℕ = λ k. bandsWord (j .request .plan) (k / 8) (k % 8) in
+    let z : 72 + i ≡ 8 + (64 + i) = omega arith in
+    let n : length (bandsPart j) ≡ 64 = length-tab f 64 0 in
+    behind-head j (64 + i) (72 + i) z
+    ∙ ap (λ k. getD (bandsPart j ++ pointsPart j) (k + i) 0) (sym n)
+    ∙ getD-append-add (bandsPart j) (pointsPart j) i 0
+    ∙ tab-get (pointWord j) 65 i 0 h
+
+-- ---- alike fields have the same words
+module _ (j k : Fields) (a : Alike j k) where
+  pub held-alike : pointsHeld j ≡ pointsHeld k
+  held-alike = rw (a .made, a .taps, a .symmetry)
+
+  bands-alike : (i m : ℕ) → bandsWord (j .request .plan) i m ≡ bandsWord (k .request .plan) i m
+  bands-alike i m = rw (a .count) (go (ltb i (k .request .plan .count)) refl)
+    where
+      go : (t : Bool) → ltb i (k .request .plan .count) ≡ t
+          → cond t (getD (bandWords (bandOf (j .request .plan) i)) m 0) 0 ≡ cond t (getD (bandWords (bandOf (k .request .plan) i)) m 0) 0
+      go true e = ap (λ b. getD (bandWords b) m 0) (a .bands i (ltb-true i (k .request .plan .count) e))
+      go false e = refl
+
+  points-alike : (i : ℕ) → pointWord j i ≡ pointWord k i
+  points-alike i = rw held-alike (go (ltb i (pointsHeld k)) refl)
+    where
+      go : (t : Bool) → ltb i (pointsHeld k) ≡ t → cond t (toWord (getD (j .points) i nan)) 0 ≡ cond t (toWord (getD (k .points) i nan)) 0
+      go true e =
+          let h : i < pointsHeld k = ltb-true i (pointsHeld k) e in
+          ap toWord
+          (sym (getD-take (pointsHeld k) (j .points) i nan h) ∙ ap (λ l. getD l i nan) (a .points) ∙ getD-take (pointsHeld k) (k .points) i nan h)
+      go false e = refl
+
+  head-alike : headWords j ≡ headWords k
+  head-alike = rw (a .symmetry, a .taps, a .degree, a .exchanges, a .made, a .count, a .threshold, a .flatness)
+
+  pub words-alike : wordsOf j ≡ wordsOf k
+  unfolding wordsOf
+  words-alike =
+      let b : bandsPart j ≡ bandsPart k = tab-same _ _ 64 0 (λ m _ _. bands-alike (m / 8) (m % 8)) in
+      let p : pointsPart j ≡ pointsPart k = tab-same (pointWord j) (pointWord k) 65 0 (λ i _ _. points-alike i) in
+      ap (λ h. h ++ (bandsPart j ++ pointsPart j)) head-alike
+      ∙ ap (λ h. headWords k ++ (h ++ pointsPart j)) b
+      ∙ ap (λ h. headWords k ++ (bandsPart k ++ h)) p
