@@ -6,3 +6,4 @@ pub mod TapLaws
 pub mod DesignLaws
 pub mod StepLaws
 pub mod StepFacts
+pub mod Unique

@@ -5,3 +5,4 @@ pub mod AnswerLaws
 pub mod Chain
 pub mod Facts
 pub mod Refused
+pub mod Unique
