@@ -2,3 +2,9 @@ pub mod BytesLaws
 pub mod Laying
 pub mod LayoutLaws
 pub mod SavedLaws
+pub mod Written
+pub mod ReadAgain
+pub mod RoundTrip
+pub mod Spans
+pub mod SavedBytes
+pub mod SavedAgain

@@ -26,33 +26,41 @@ bandsPart j = tab (λ k. bandsWord (j .request .plan) (k / 8) (k % 8)) 64 0
 abbrev pointsPart : Fields → List ℕ
 pointsPart j = tab (pointWord j) 65 0
 
--- behind the head
-behind-head : (j : Fields) (k m : ℕ) → m ≡ 8 + k → at (wordsOf j) m ≡ getD (bandsPart j ++ pointsPart j) k 0
-unfolding wordsOf
-behind-head j k m e = rw e (getD-append-add (headWords j) (bandsPart j ++ pointsPart j) k 0)
+-- ---- words in three parts: 8 of the head, 64 of the bands and 65 of the points
+module _ (h : List ℕ) (f g : ℕ → ℕ) (long : length h ≡ 8) where
+  behind-head : (k p : ℕ) → p ≡ 8 + k → getD (h ++ (tab f 64 0 ++ tab g 65 0)) p 0 ≡ getD (tab f 64 0 ++ tab g 65 0) k 0
+  behind-head k p e = rw (e, ← long) (getD-append-add h (tab f 64 0 ++ tab g 65 0) k 0)
+
+  pub band-part : (i k : ℕ) → i < 8 → k < 8 → (p : ℕ) → p ≡ bandAt i + k → getD (h ++ (tab f 64 0 ++ tab g 65 0)) p 0 ≡ f (8 * i + k)
+  band-part i k hi hk p e =
+      let z : p ≡ 8 + (8 * i + k) = omega arith in
+      let n : 8 * i + k < length (tab f 64 0) = rw (length-tab f 64 0) (omega arith) in
+      behind-head (8 * i + k) p z
+      ∙ List·getD-append (tab f 64 0) (tab g 65 0) 0 (8 * i + k) n
+      ∙ tab-get f 64 (8 * i + k) 0 (omega arith)
+
+  pub point-part : (i : ℕ) → i < 65 → getD (h ++ (tab f 64 0 ++ tab g 65 0)) (pointAt i) 0 ≡ g i
+  point-part i k =
+      let z : 72 + i ≡ 8 + (64 + i) = omega arith in
+      behind-head (64 + i) (72 + i) z
+      ∙ ap (λ n. getD (tab f 64 0 ++ tab g 65 0) (n + i) 0) (sym (length-tab f 64 0))
+      ∙ getD-append-add (tab f 64 0) (tab g 65 0) i 0
+      ∙ tab-get g 65 i 0 k
+
+-- which band a word is of, and which of its words
+pub whose : (i k : ℕ) → k < 8 → ((8 * i + k) / 8 ≡ i) × ((8 * i + k) % 8 ≡ k)
+whose i k h = (omega arith, omega arith)
 
 -- word k of band i
 pub band-word : (j : Fields) (i k : ℕ) → i < 8 → k < 8 → (m : ℕ) → m ≡ bandAt i + k → at (wordsOf j) m ≡ bandsWord (j .request .plan) i k
+unfolding wordsOf
 band-word j i k hi hk m e =
-    let f : ℕ → ℕ = λ k. bandsWord (j .request .plan) (k / 8) (k % 8) in
-    let z : m ≡ 8 + (8 * i + k) = omega arith in
-    let n : 8 * i + k < length (bandsPart j) = rw (length-tab f 64 0) (omega arith) in
-    let q : (8 * i + k) / 8 ≡ i = omega arith in
-    let r : (8 * i + k) % 8 ≡ k = omega arith in
-    behind-head j (8 * i + k) m z
-    ∙ List·getD-append (bandsPart j) (pointsPart j) 0 (8 * i + k) n
-    ∙ tab-get f 64 (8 * i + k) 0 (omega arith)
-    ∙ rw (q, r)
+    band-part (headWords j) (λ k. bandsWord (j .request .plan) (k / 8) (k % 8)) (pointWord j) refl i k hi hk m e
+    ∙ rw (whose i k hk .0, whose i k hk .1)
 
 pub point-word : (j : Fields) (i : ℕ) → i < 65 → at (wordsOf j) (pointAt i) ≡ pointWord j i
-point-word j i h =
-    let f : ℕ → ℕ = λ k. bandsWord (j .request .plan) (k / 8) (k % 8) in
-    let z : 72 + i ≡ 8 + (64 + i) = omega arith in
-    let n : length (bandsPart j) ≡ 64 = length-tab f 64 0 in
-    behind-head j (64 + i) (72 + i) z
-    ∙ ap (λ k. getD (bandsPart j ++ pointsPart j) (k + i) 0) (sym n)
-    ∙ getD-append-add (bandsPart j) (pointsPart j) i 0
-    ∙ tab-get (pointWord j) 65 i 0 h
+unfolding wordsOf
+point-word j i h = point-part (headWords j) (λ k. bandsWord (j .request .plan) (k / 8) (k % 8)) (pointWord j) refl i h
 
 -- ---- alike fields have the same words
 module _ (j k : Fields) (a : Alike j k) where

@@ -41,7 +41,7 @@ pub number-back : (x : Float) → T (fits binary64 x) → isNan x ≡ false → 
 unfolding toWord
 number-back x f n = rw n (ofBits-toBits binary64 x f)
 
-symmetry-back : (s : Symmetry) → symmetryOf (symmetryWord s) ≡ s
+pub symmetry-back : (s : Symmetry) → symmetryOf (symmetryWord s) ≡ s
 symmetry-back Even = refl
 symmetry-back Odd = refl
 
@@ -103,7 +103,7 @@ module _ (j : Fields) (stored : Stored j) (s : Sound j) where
       )
       (band-back (bandOf (j .request .plan) i) (stored .bands i h8) (s .bands i h))
 
-  held-most : pointsHeld j ≤ 65
+  pub held-most : pointsHeld j ≤ 65
   held-most = go (eqb (j .made) 0)
     where
       go : (t : Bool) → cond t 0 (pointsOf (j .request)) ≤ 65

@@ -1,0 +1,5 @@
+pub mod Sizes
+pub mod Slot
+pub mod Calls
+pub mod Bank
+pub mod Runs
