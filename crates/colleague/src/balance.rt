@@ -17,6 +17,12 @@ impl Scale {
     pub const STEPS: u64 = 1023;
 }
 
+// The norms of a row and of its column.
+struct Norms {
+    row: f64,
+    column: f64,
+}
+
 // What is done with a row: nothing, scaled, or balancing ended because the norm is no normal number.
 pub enum Step {
     Still,
@@ -36,34 +42,25 @@ pub enum Passes {
     Over,
 }
 
-fn row_norm(a: &[[f64; 15]; 15], n: usize, j: usize) -> f64
+// Both norms in one loop, each in its own order.
+fn norms_of(a: &[[f64; 15]; 15], n: usize, j: usize) -> Norms
     requires { ⌜ (n ≤ 15) × (j < n) ⌝ }
-    ensures { λ r. ⌜ r ≡ rowNorm (now (a .entry)) n j ⌝ }
+    ensures { λ r. ⌜ (r .row ≡ rowNorm (now (a .entry)) n j) × (r .column ≡ columnNorm (now (a .entry)) n j) ⌝ }
 {
-    let mut norm = 0.0;
+    let mut row = 0.0;
+    let mut column = 0.0;
     let mut k: usize = 0;
     while k < n {
         if k != j {
-            norm = norm + numbers::magnitude(a[j][k]);
+            row = row + numbers::magnitude(a[j][k]);
+            column = column + numbers::magnitude(a[k][j]);
         }
         k += 1;
     }
-    norm
-}
-
-fn column_norm(a: &[[f64; 15]; 15], n: usize, j: usize) -> f64
-    requires { ⌜ (n ≤ 15) × (j < n) ⌝ }
-    ensures { λ r. ⌜ r ≡ columnNorm (now (a .entry)) n j ⌝ }
-{
-    let mut norm = 0.0;
-    let mut k: usize = 0;
-    while k < n {
-        if k != j {
-            norm = norm + numbers::magnitude(a[k][j]);
-        }
-        k += 1;
+    Norms {
+        row: row,
+        column: column,
     }
-    norm
 }
 
 fn may_raise(s: Scale, half: f64) -> bool
@@ -138,8 +135,9 @@ fn balance_row(a: &mut [[f64; 15]; 15], n: usize, j: usize) -> Step
     requires { ⌜ (n ≤ 15) × (j < n) ⌝ }
     ensures { λ r. ⌜ (r ≡ stepOf (now (a .entry)) n j) × (now (a .exit) ≡ stepped (now (a .entry)) n j) ⌝ }
 {
-    let row = row_norm(a, n, j);
-    let column = column_norm(a, n, j);
+    let norms = norms_of(a, n, j);
+    let row = norms.row;
+    let column = norms.column;
     if row == 0.0 {
         return Step::Still;
     }

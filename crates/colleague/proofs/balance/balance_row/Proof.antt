@@ -12,21 +12,18 @@ use Rattle.colleague.proofs.balance.balance_row.Statement.{statement}
 use Rattle.colleague.proofs.balance.balance_row.Tie as tie
 
 -- what row j comes to, from the two norms and the scale that they give
-outcome : (c : tie.After-column-norm) (s : Scale) → s ≡ scaleOf (c .before .before .row-norm .result) (c .column-norm .result) → (t : Step)
-    → stepFor (c .before .before .row-norm .result) (c .column-norm .result) s ≡ t
-    → let g = c .before .before .before .before .args in (t ≡ stepOf (g .a .now) (g .n) (g .j)) × (movedBy t (s .factor) (g .a .now) (g .n) (g .j) ≡ stepped (g .a .now) (g .n) (g .j))
+outcome : (c : tie.After-norms-of) (s : Scale) → s ≡ scaleOf (c .norms-of .result .row) (c .norms-of .result .column) → (t : Step)
+    → stepFor (c .norms-of .result .row) (c .norms-of .result .column) s ≡ t
+    → let g = c .before .before .args in (t ≡ stepOf (g .a .now) (g .n) (g .j)) × (movedBy t (s .factor) (g .a .now) (g .n) (g .j) ≡ stepped (g .a .now) (g .n) (g .j))
 outcome c s e t p =
-    let g = c .before .before .before .before .args in
-    row-is (g .a .now) (g .n) (g .j) _ _ s (c .before .before .row-norm .ensures) (c .column-norm .ensures) e t p
+    let g = c .before .before .args in
+    row-is (g .a .now) (g .n) (g .j) _ _ s (c .norms-of .ensures .0) (c .norms-of .ensures .1) e t p
 
-scale-is : (c : tie.After-lower) → c .lower .result ≡ scaleOf (c .before .before .before .before .before .before .row-norm .result) (c .before .before .before .before .column-norm .result)
+scale-is : (c : tie.After-lower) → let r = c .before .before .before .before .norms-of .result in c .lower .result ≡ scaleOf (r .row) (r .column)
 scale-is c = c .lower .ensures ∙ rw (c .before .raise .ensures)
 
-row-norm-requires : tie.Need-row-norm-requires
-row-norm-requires c κs = search needs
-
-column-norm-requires : tie.Need-column-norm-requires
-column-norm-requires c κs = search needs
+norms-of-requires : tie.Need-norms-of-requires
+norms-of-requires c κs = search needs
 
 returns : tie.Need-returns
 returns c = outcome (c .before) _ refl Still (step-row _ _ _ (c .if1 .taken))
@@ -74,8 +71,7 @@ pub balance-row-spec : {M : Type 1} → statement M
 balance-row-spec =
     tie.close
     (tie.spec
-    row-norm-requires
-    column-norm-requires
+    norms-of-requires
     returns
     returns-2
     raise-requires
