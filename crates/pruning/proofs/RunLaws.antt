@@ -41,18 +41,23 @@ module _ {A : Type 0} (negative : A → Bool) (size : A → Float) where
           subst (λ (z : Bool). take m k ++ emit z b (to-come g n (i + 1) (better negative size b (g i))) ≡ r) q (rw e at (a .rest))
 
       -- the sign turns: b is kept
-      pub runs-turn : {c : A} → m < length k → turned negative size b (g i) ≡ true → c ≡ better negative size b (g i)
-          → Running g n (i + 1) (m + 1) c (set k m b) r
-      runs-turn {c} l t e =
+      pub runs-turn : m < length k → turned negative size b (g i) ≡ true → Running g n (i + 1) (m + 1) (g i) (set k m b) r
+      runs-turn l t =
           record {
             below = let q : m < i = a .below in omega arith;
             within = omega arith;
-            rest = rw (e, add-one m, take-suc-set k m b l, append-assoc) (after-turn true t);
+            rest = rw (add-one m, take-suc-set k m b l, append-assoc) (rw t at (after-turn true t));
           }
 
-      pub runs-same : {c : A} → turned negative size b (g i) ≡ false → c ≡ better negative size b (g i) → Running g n (i + 1) m c k r
-      runs-same {c} t e =
-          record { below = let q : m < i = a .below in omega arith; within = omega arith; rest = rw e (after-turn false t) }
+      module _ (t : turned negative size b (g i) ≡ false) where
+        -- a larger one of the same run
+        pub runs-larger : lt (size b) (size (g i)) ≡ true → Running g n (i + 1) m (g i) k r
+        runs-larger s =
+            record { below = let q : m < i = a .below in omega arith; within = omega arith; rest = rw (t, s) at (after-turn false t) }
+
+        pub runs-same : lt (size b) (size (g i)) ≡ false → Running g n (i + 1) m b k r
+        runs-same s =
+            record { below = let q : m < i = a .below in omega arith; within = omega arith; rest = rw (t, s) at (after-turn false t) }
 
     pub runs-end : {i m : ℕ} {b : A} {k r : List A} → Running g n i m b k r → n ≤ i → m < length k → take (m + 1) (set k m b) ≡ r
     unfolding tab runsFrom

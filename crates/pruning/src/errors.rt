@@ -4,7 +4,7 @@ ghost use mathlib.Core.List.{_++_};
 ghost use lib.ListN.{length, getD, take, drop};
 ghost use lib.Ieee.{nan};
 ghost use Rattle.numbers.specs.Refusals.{Filled};
-ghost use Rattle.pruning.specs.Prune.{turned, better, weaker, runs, weakest, without, withoutEnd, withoutPairs, cut};
+ghost use Rattle.pruning.specs.Prune.{runs, weakest, without, withoutEnd, withoutPairs, cut};
 ghost use Rattle.pruning.specs.Errors.{negativeAt, sizeAt, placesOf, keptPlaces, sized, pruneFor, Fitting};
 use numbers::Refusal;
 use numbers::Verdict;
@@ -24,34 +24,10 @@ fn error_at(errors: &[f64], place: u64) -> f64
     }
 }
 
-fn is_negative(errors: &[f64], place: u64) -> bool
-    ensures { λ r. ⌜ r ≡ negativeAt (now (errors .entry)) place ⌝ }
-{
-    error_at(errors, place) < 0.0
-}
-
 fn size(errors: &[f64], place: u64) -> f64
     ensures { λ r. ⌜ r ≡ sizeAt (now (errors .entry)) place ⌝ }
 {
     numbers::magnitude(error_at(errors, place))
-}
-
-fn is_turned(errors: &[f64], b: u64, a: u64) -> bool
-    ensures { λ r. ⌜ r ≡ turned (negativeAt (now (errors .entry))) (sizeAt (now (errors .entry))) b a ⌝ }
-{
-    is_negative(errors, b) != is_negative(errors, a)
-}
-
-fn better_of(errors: &[f64], b: u64, a: u64) -> u64
-    ensures { λ r. ⌜ r ≡ better (negativeAt (now (errors .entry))) (sizeAt (now (errors .entry))) b a ⌝ }
-{
-    if is_turned(errors, b, a) {
-        return a;
-    }
-    if size(errors, b) < size(errors, a) {
-        return a;
-    }
-    b
 }
 
 // The place of the largest of each run to the front of `kept`, and their number.
@@ -61,25 +37,27 @@ fn keep_runs(errors: &[f64], kept: &mut [u64]) -> usize
 {
     let mut m: usize = 0;
     let mut b: u64 = 0;
+    // The sign and the magnitude at b, so that no turn reads them again.
+    let mut below = errors[0] < 0.0;
+    let mut largest = numbers::magnitude(errors[0]);
     let mut i: usize = 1;
     while i < errors.len() {
-        let a = i as u64;
-        if is_turned(errors, b, a) {
+        let negative = errors[i] < 0.0;
+        let size = numbers::magnitude(errors[i]);
+        if below != negative {
             kept[m] = b;
             m += 1;
+            b = i as u64;
+            below = negative;
+            largest = size;
+        } else if largest < size {
+            b = i as u64;
+            largest = size;
         }
-        let next = better_of(errors, b, a);
-        b = next;
         i += 1;
     }
     kept[m] = b;
     m + 1
-}
-
-fn weaker_of(errors: &[f64], x: u64, y: u64) -> f64
-    ensures { λ r. ⌜ r ≡ weaker (negativeAt (now (errors .entry))) (sizeAt (now (errors .entry))) x y ⌝ }
-{
-    numbers::smaller(size(errors, x), size(errors, y))
 }
 
 // Where the earliest of the weakest neighbouring pairs stands, of the first n kept.
@@ -88,14 +66,19 @@ fn weakest_pair(errors: &[f64], kept: &[u64], n: usize) -> usize
     ensures { λ r. ⌜ r ≡ weakest (negativeAt (now (errors .entry))) (sizeAt (now (errors .entry))) (take n (now (kept .entry))) ⌝ }
 {
     let mut best: usize = 0;
-    let mut v = weaker_of(errors, kept[0], kept[1]);
+    let first = size(errors, kept[0]);
+    // The magnitude at k, so that no turn reads it again.
+    let mut last = size(errors, kept[1]);
+    let mut v = numbers::smaller(first, last);
     let mut k: usize = 1;
     while k + 1 < n {
-        let p = weaker_of(errors, kept[k], kept[k + 1]);
+        let next = size(errors, kept[k + 1]);
+        let p = numbers::smaller(last, next);
         if p < v {
             best = k;
             v = p;
         }
+        last = next;
         k += 1;
     }
     best
