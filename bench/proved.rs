@@ -1,6 +1,8 @@
 //! The proved exchange as its module has it: the records laid out as the compiled functions hand them to each other. That the layout is
 //! the right one shows in the taps, which bench/designs.rs compares.
 
+use std::hint::black_box;
+
 use oracle::design::Request;
 use oracle::plan::{self, Band};
 use pm_remez::Symmetry;
@@ -164,7 +166,8 @@ const PAINT: u64 = 0x5a5a_5a5a_5a5a_5a5a;
 #[inline(never)]
 fn depth(call: impl FnOnce()) -> usize {
     let mut here = 0u64;
-    let top = &raw mut here;
+    // A pointer that the compiler knows nothing of: what it points to is beyond any variable.
+    let top = black_box(&raw mut here);
     // Some words are left alone for the painting itself.
     let below = |i: usize| unsafe { top.sub(64 + i) };
     (0..PAINTED).for_each(|i| unsafe { below(i).write_volatile(PAINT) });
