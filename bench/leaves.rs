@@ -106,7 +106,7 @@ impl Bench {
             weights: (0..65).map(|k| plain::weight(&points, k)).collect(),
             points,
             abscissas: (0..65).map(|i| if i % 2 == 0 { 1.01 } else { 0.99 }).collect(),
-            places: (0..17).map(|i| 0.301 + 0.0021 * i as f64).collect(),
+            places: (0..64).map(|i| 0.301 + 0.0021 * i as f64).collect(),
             values: (0..64).map(|i| (i as f64 * 0.37).sin()).collect(),
             squares: [Square::new(8), Square::new(16)],
             candidates: [Candidates::new(50, 1, 51), Candidates::new(53, 17, 65)],
@@ -126,8 +126,8 @@ impl Bench {
         }
     }
 
-    fn responses(&mut self, proved: bool) {
-        let (p, x, w, y, out) = (&self.places, &self.points, &self.weights, &self.abscissas, &mut self.out);
+    fn responses(&mut self, proved: bool, places: usize) {
+        let (p, x, w, y, out) = (&self.places[..places], &self.points, &self.weights, &self.abscissas, &mut self.out);
         if proved {
             let (m, n, room) = (p.len(), x.len(), out.len());
             let (p, x, w, y) = (p.as_ptr(), x.as_ptr(), w.as_ptr(), y.as_ptr());
@@ -214,9 +214,13 @@ impl Bench {
 
 type Row = (&'static str, fn(&mut Bench, bool));
 
-const ROWS: [Row; 13] = [
+const ROWS: [Row; 17] = [
     ("weights of 65 points", |b, p| b.weights(p)),
-    ("responses at 17 places", |b, p| b.responses(p)),
+    ("responses at 1 place", |b, p| b.responses(p, 1)),
+    ("responses at 2 places", |b, p| b.responses(p, 2)),
+    ("responses at 9 places", |b, p| b.responses(p, 9)),
+    ("responses at 17 places", |b, p| b.responses(p, 17)),
+    ("responses at 64 places", |b, p| b.responses(p, 64)),
     ("coefficients of 64 values", |b, p| b.coefficients(p)),
     ("residual grid, 7 rows", |b, p| b.grid(p, 0)),
     ("residual grid, 15 rows", |b, p| b.grid(p, 1)),
