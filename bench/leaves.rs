@@ -49,17 +49,24 @@ struct Square {
     cell: (f64, f64, f64),
 }
 
+/// As many roots as a row halves: of a few, the host soon knows by heart in which half each lies each time.
+const ROOTS: usize = 1024;
+
 impl Square {
-    /// Of a derivative as a smooth error has one, its coefficients falling quickly.
-    fn new(degree: usize) -> Square {
-        let c: Vec<f64> = (0..degree).map(|k| (0.1 + 2.0 * k as f64).sin() * 0.4f64.powi(k as i32)).collect();
+    /// Of a derivative as a smooth error has one, its coefficients falling quickly; none where no cell holds a root.
+    fn new(degree: usize, i: usize) -> Option<Square> {
+        let c: Vec<f64> = (0..degree).map(|k| (0.1 + 2.0 * k as f64 + 0.37 * i as f64).sin() * 0.4f64.powi(k as i32)).collect();
         let size = degree - 1;
         let built = plain::colleague(&c);
         let mut balanced = built;
         let passes = plain::balance(&mut balanced, size);
         let at = |j: usize| plain::residual(&balanced, size, plain::cell_end(j));
-        let j = (0..64).find(|&j| plain::opposite(at(j), at(j + 1))).expect("a root in -1 to 1");
-        Square { size, built, balanced, passes, cell: (at(j), plain::cell_end(j), plain::cell_end(j + 1)) }
+        let j = (0..64).find(|&j| plain::opposite(at(j), at(j + 1)))?;
+        Some(Square { size, built, balanced, passes, cell: (at(j), plain::cell_end(j), plain::cell_end(j + 1)) })
+    }
+
+    fn some(degree: usize) -> Vec<Square> {
+        (0..).filter_map(|i| Square::new(degree, i)).take(ROOTS).collect()
     }
 }
 
@@ -92,7 +99,7 @@ struct Bench {
     abscissas: Vec<f64>,
     places: Vec<f64>,
     values: Vec<f64>,
-    squares: [Square; 2],
+    squares: [Vec<Square>; 2],
     candidates: [Candidates; 2],
     out: Vec<f64>,
     words: Vec<u64>,
@@ -108,9 +115,9 @@ impl Bench {
             abscissas: (0..65).map(|i| if i % 2 == 0 { 1.01 } else { 0.99 }).collect(),
             places: (0..64).map(|i| 0.301 + 0.0021 * i as f64).collect(),
             values: (0..64).map(|i| (i as f64 * 0.37).sin()).collect(),
-            squares: [Square::new(8), Square::new(16)],
+            squares: [Square::some(8), Square::some(16)],
             candidates: [Candidates::new(50, 1, 51), Candidates::new(53, 17, 65)],
-            out: vec![0.0; 128],
+            out: vec![0.0; ROOTS],
             words: vec![0; 2 * 1241],
             matrix: [[0.0; 15]; 15],
         }
@@ -151,7 +158,7 @@ impl Bench {
     }
 
     fn grid(&mut self, proved: bool, which: usize) {
-        let Square { size, balanced, .. } = &self.squares[which];
+        let Square { size, balanced, .. } = &self.squares[which][0];
         if proved {
             unsafe { bench_cell_residuals(balanced, *size, &Slice(self.out.as_mut_ptr(), 65)) };
         } else {
@@ -160,19 +167,21 @@ impl Bench {
     }
 
     fn halving(&mut self, proved: bool, which: usize) {
-        let Square { size, balanced, cell: (p, low, high), .. } = &self.squares[which];
-        self.out[0] = if proved {
-            // The number stands behind what tells whether there is one.
-            let mut answer = [0.0; 2];
-            unsafe { bench_halve(&mut answer, balanced, *size, *p, *low, *high) };
-            answer[1]
-        } else {
-            plain::halve(balanced, *size, *p, *low, *high).expect("a root")
-        };
+        for (square, out) in self.squares[which].iter().zip(&mut self.out) {
+            let Square { size, balanced, cell: (p, low, high), .. } = square;
+            *out = if proved {
+                // The number stands behind what tells whether there is one.
+                let mut answer = [0.0; 2];
+                unsafe { bench_halve(&mut answer, balanced, *size, *p, *low, *high) };
+                answer[1]
+            } else {
+                plain::halve(balanced, *size, *p, *low, *high).expect("a root")
+            };
+        }
     }
 
     fn balancing(&mut self, proved: bool, which: usize) {
-        let Square { size, built, .. } = &self.squares[which];
+        let Square { size, built, .. } = &self.squares[which][0];
         self.matrix = *built;
         self.words[0] = if proved {
             let mut answer = [0; 2];
@@ -224,8 +233,8 @@ const ROWS: [Row; 17] = [
     ("coefficients of 64 values", |b, p| b.coefficients(p)),
     ("residual grid, 7 rows", |b, p| b.grid(p, 0)),
     ("residual grid, 15 rows", |b, p| b.grid(p, 1)),
-    ("halving of a root, 7 rows", |b, p| b.halving(p, 0)),
-    ("halving of a root, 15 rows", |b, p| b.halving(p, 1)),
+    ("halving of 1,024 roots, 7 rows", |b, p| b.halving(p, 0)),
+    ("halving of 1,024 roots, 15 rows", |b, p| b.halving(p, 1)),
     ("balancing, degree 8", |b, p| b.balancing(p, 0)),
     ("balancing, degree 16", |b, p| b.balancing(p, 1)),
     ("sort of 150", |b, p| b.sort(p, 0)),
@@ -271,16 +280,16 @@ fn main() {
         }
         _ => panic!("leaves [rows | NAME proved|plain COUNT]"),
     }
-    for square in &bench.squares {
-        println!("{} rows: balanced in {} passes", square.size, square.passes);
+    for squares in &bench.squares {
+        println!("{} rows: balanced in {} passes", squares[0].size, squares[0].passes);
     }
-    println!("nanoseconds a call               proved    plain  ratio");
+    println!("nanoseconds a call                 proved    plain  ratio");
     for (name, call) in ROWS {
         call(&mut bench, true);
         let proved = bench.bits();
         call(&mut bench, false);
         assert_eq!(proved, bench.bits(), "{name}: other bits");
         let [a, b] = times(&mut bench, call);
-        println!("  {name:28} {a:9.0} {b:8.0} {:6.2}", a / b);
+        println!("  {name:30} {a:9.0} {b:8.0} {:6.2}", a / b);
     }
 }
