@@ -48,7 +48,7 @@ module _ (σ : Sizes) (wide : 139 ≤ σ .slot) (call : Call) (j : ℕ) (bank sc
   abbrev bank′ : List ℕ
   bank′ = bankCall σ call j bank scratch .bank
 
-  call-length : length bank′ ≡ length bank
+  pub call-length : length bank′ ≡ length bank
   unfolding bankCall
   call-length = length-after G refl
 

@@ -29,6 +29,7 @@ pub record Inside (σ : Sizes) (words scratch i : ℕ) (fits : Bool) : Type 0 wh
   pub spare : σ .scratch ≤ scratch
   pub slot : i < σ .slots
   pub part : i * σ .slot + σ .slot ≤ words
+  pub last : i * σ .slot + σ .slot ≤ σ .slots * σ .slot
   pub room : fits ≡ true
 
 gate-cases : (a b r d : Bool) → cond {A = ℕ} a 1 (cond b 1 (cond r (cond d 2 0) 1)) ≡ 0 → (a ≡ false) × (b ≡ false) × (d ≡ false) × (r ≡ true)
@@ -45,7 +46,7 @@ inside σ words scratch slot fits e =
     let b = ltb-false words (σ .slots * σ .slot) (k .0) in
     let i = leb-false (σ .slots) slot (k .2) in
     let l = ends-before slot (σ .slots) (σ .slot) i in
-    record { bank = b; spare = ltb-false _ _ (k .1); slot = i; part = omega arith; room = k .3 }
+    record { bank = b; spare = ltb-false _ _ (k .1); slot = i; part = omega arith; last = l; room = k .3 }
 
 -- ---- lengths
 pub slotOf-length : (σ : Sizes) (bank : List ℕ) (i : ℕ) → i * σ .slot + σ .slot ≤ length bank → length (slotOf σ bank i) ≡ σ .slot

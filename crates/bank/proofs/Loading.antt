@@ -76,11 +76,6 @@ held-holding ws e =
       room = fields-room (drop 2 ws);
     }
 
-abbrev IsHeld : Loaded → Type 0
-IsHeld empty = ⊥
-IsHeld broken = ⊥
-IsHeld (holds j) = Unit {0}
-
 holds-same : {j k : Held} → holds j ≡ holds k → j ≡ k
 holds-same e = cc
 

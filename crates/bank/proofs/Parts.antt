@@ -45,21 +45,26 @@ module _ (σ : Sizes) (bank : List ℕ) (j : ℕ) (ws : List ℕ) (fits : j * σ
   before i h =
       front i _ h ∙ sym (front i (drop (j * σ .slot) bank) h) ∙ ap (λ (l : List ℕ). take (σ .slot) (drop (i * σ .slot) l)) (take-append-drop (j * σ .slot) bank)
 
-  -- a slot after it: a part of the rest, which both share
-  after : (i : ℕ) → j < i → slotOf σ (putSlot σ bank j ws) i ≡ slotOf σ bank i
-  unfolding putSlot slotOf
-  after i h =
-      let l = ends-before j i (σ .slot) h in
+  -- the words behind it are those behind it in the bank
+  pub put-beyond : (n : ℕ) → j * σ .slot + σ .slot ≤ n → drop n (putSlot σ bank j ws) ≡ drop n bank
+  unfolding putSlot
+  put-beyond n h =
       let a = take (j * σ .slot) bank in
       let rest = drop (σ .slot) (drop (j * σ .slot) bank) in
-      let d = i * σ .slot - (j * σ .slot + σ .slot) in
-      let len : length (a ++ ws) + d ≡ i * σ .slot = simp length-append (omega (arith, head)) in
-      let far : j * σ .slot + (σ .slot + d) ≡ i * σ .slot = omega arith in
-      let e : drop (i * σ .slot) (a ++ (ws ++ rest)) ≡ drop d rest =
-      ap (drop (i * σ .slot)) (sym (append-assoc a ws rest)) ∙ ap (λ (n : ℕ). drop n (a ++ ws ++ rest)) (sym len) ∙ drop-append-add (a ++ ws) rest d in
-      let f : drop d rest ≡ drop (i * σ .slot) bank =
-      drop-drop d (σ .slot) (drop (j * σ .slot) bank) ∙ drop-drop (σ .slot + d) (j * σ .slot) bank ∙ ap (λ (n : ℕ). drop n bank) far in
-      ap (take (σ .slot)) (e ∙ f)
+      let d = n - (j * σ .slot + σ .slot) in
+      let len : length (a ++ ws) + d ≡ n = simp length-append (omega (arith, head)) in
+      let far : j * σ .slot + (σ .slot + d) ≡ n = omega arith in
+      ap (drop n) (sym (append-assoc a ws rest))
+      ∙ ap (λ (k : ℕ). drop k (a ++ ws ++ rest)) (sym len)
+      ∙ drop-append-add (a ++ ws) rest d
+      ∙ drop-drop d (σ .slot) (drop (j * σ .slot) bank)
+      ∙ drop-drop (σ .slot + d) (j * σ .slot) bank
+      ∙ ap (λ (k : ℕ). drop k bank) far
+
+  -- a slot after it: a part of what is behind
+  after : (i : ℕ) → j < i → slotOf σ (putSlot σ bank j ws) i ≡ slotOf σ bank i
+  unfolding slotOf
+  after i h = ap (take (σ .slot)) (put-beyond (i * σ .slot) (ends-before j i (σ .slot) h))
 
   pub put-other : (i : ℕ) → (j ≡ i → ⊥) → slotOf σ (putSlot σ bank j ws) i ≡ slotOf σ bank i
   put-other i h = go (ltb i j) refl

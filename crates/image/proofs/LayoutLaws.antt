@@ -1,7 +1,7 @@
 -- What bytes that hold the layout are. Assumes nothing.
-use Prim.Native.Nat.{ℕ, _+_, _*_, _≤_}
+use Prim.Native.Nat.{ℕ, _≤_}
 use mathlib.Core.Path.{_≡_}
-use mathlib.Core.Bool.{Bool, true, _&&_}
+use mathlib.Core.Bool.{true, _&&_}
 use mathlib.Core.List.{List}
 use borrow.Author.Tests.{leb-true, eqb-true}
 use lib.Dec.{eqb, leb}
@@ -11,7 +11,7 @@ use Rattle.numbers.specs.Loops.{every}
 use Rattle.numbers.proofs.Order.{and-1, and-2}
 use Rattle.fields.specs.Accept.{countsHold}
 use Rattle.image.specs.Bytes.{numberAt}
-use Rattle.image.specs.Image.{headBytes, lengthFor, madeIn, countIn, pointsIn, marked, bandLaid, headLaid, layout}
+use Rattle.image.specs.Image.{lengthFor, madeIn, countIn, pointsIn, marked, bandLaid, headLaid, layout}
 
 pub record Head (s : List ℕ) : Type 0 where
   pub long : 28 ≤ length s

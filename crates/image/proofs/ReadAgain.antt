@@ -1,12 +1,12 @@
 -- The head and the bands of written words, read again. Assumes nothing.
-use Prim.Native.Nat.{ℕ, zero, suc, _+_, _*_, _-_, _^_, _<_, _≤_}
-use mathlib.Core.Path.{_≡_, refl, sym, ap, _∙_}
-use mathlib.Core.Bool.{Bool, true, false, cond}
+use Prim.Native.Nat.{ℕ, zero, suc, _+_, _*_, _-_, _^_, _<_}
+use mathlib.Core.Path.{_≡_, _∙_}
+use mathlib.Core.Bool.{cond}
 use mathlib.Core.List.{List, [], _∷_, _++_}
 use native.Mathlib.Omega.{arith}
 use lib.Dec.{ltb}
 use Rattle.packing.specs.Packing.{at, bandAt}
-use Rattle.image.specs.Bytes.{bytesOf, numberOf, numberAt}
+use Rattle.image.specs.Bytes.{bytesOf, numberAt}
 use Rattle.image.specs.Image.{bandFrom, headOf, headIn, bandOf, bytesFor}
 use Rattle.image.proofs.Written.{back, after, from-band}
 

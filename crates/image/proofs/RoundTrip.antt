@@ -1,37 +1,36 @@
 -- The image of an accepted job reads as the job: it holds the layout, its words are the job's, and so are its fields. Assumes nothing.
 use Prim.Native.Nat.{ℕ, zero, suc, _+_, _*_, _/_, _%_, _^_, _<_, _≤_}
-use mathlib.Core.Path.{_≡_, refl, sym, ap, _∙_}
-use mathlib.Core.Bool.{Bool, true, false, not, _&&_, _||_, cond}
-use mathlib.Core.List.{List, [], _∷_, _++_}
+use mathlib.Core.Path.{_≡_, refl, ap, _∙_}
+use mathlib.Core.Bool.{Bool, true, false, not, cond}
+use mathlib.Core.List.{List, _++_}
 use native.Mathlib.Omega.{arith}
-use native.Mathlib.Nat.{div-lt-iff-lt-mul, mod-lt}
+use native.Mathlib.Nat.{mod-lt}
 use borrow.Author.Tests.{lt-ltb, le-ltb, le-leb, eq-eqb, ltb-true}
-use lib.Dec.{T, eqb, leb, ltb}
+use lib.Dec.{T, ltb}
 use lib.ListN.{length, getD}
-use lib.Ieee.{Float, nan, binary64, ofBits, toBits, isNan, fits}
+use lib.Ieee.{Float, nan, binary64, toBits, isNan, fits}
 use lib.Ieee.Bits.{toBits-lt}
 use Rattle.numbers.specs.Loops.{tab, until, every}
-use Rattle.numbers.specs.Outcome.{Outcome, gave, unless}
+use Rattle.numbers.specs.Outcome.{gave}
 use Rattle.numbers.specs.Words.{toWord}
 use Rattle.numbers.proofs.Lanes.{tab-same}
 use Rattle.bands.specs.declared.Symmetry.{Symmetry}
 use Rattle.bands.specs.declared.Symmetry.the-variants.{Even, Odd}
 use Rattle.bands.specs.declared.Value.{Value}
 use Rattle.bands.specs.declared.Value.the-variants.{Constant, Linear}
-use Rattle.bands.specs.declared.Band.{Band}
 use Rattle.bands.specs.Lookup as bands
 use Rattle.fields.specs.declared.held.Fields.{Fields}
 use Rattle.fields.specs.Interpolant.{Interpolation}
-use Rattle.fields.specs.Accept.{countsHold, acceptOf}
+use Rattle.fields.specs.Accept.{acceptOf}
 use Rattle.packing.specs.Packing as words
-use Rattle.packing.specs.Packing.{at, bandAt, pointAt, symmetryWord, symmetryOf, kindWord, firstWord, secondWord, bandWords, bandsWord, pointsHeld, headWords, wordsOf, fieldsOf}
-use Rattle.packing.specs.Alike.{ValueFits, BandFits, Stored}
+use Rattle.packing.specs.Packing.{at, bandAt, symmetryWord, kindWord, firstWord, secondWord, bandWords, bandsWord, pointsHeld, headWords, wordsOf, fieldsOf}
+use Rattle.packing.specs.Alike.{ValueFits, Stored}
 use Rattle.packing.proofs.Sound.{Sound, sound}
 use Rattle.packing.proofs.Places.{band-word, point-word}
 use Rattle.packing.proofs.RoundTrip.{number-back, symmetry-back, held-most}
-use Rattle.image.specs.Bytes.{bytesOf, numberOf, numberAt}
-use Rattle.image.specs.Image.{lengthFor, bandFrom, headOf, bandOf, wordPart, parts, bytesFor, madeIn, countIn, pointsIn, headIn, bandWord, pointWord, wordsIn, marked, valueLaid, bandLaid, headLaid, layout, imageFor, fewBands, fewPoints, imageOf}
-use Rattle.image.proofs.SavedLaws.{bytes-for-length, image-length}
+use Rattle.image.specs.Bytes.{numberAt}
+use Rattle.image.specs.Image.{lengthFor, bandFrom, bandOf, wordPart, parts, bytesFor, madeIn, countIn, pointsIn, headIn, bandWord, pointWord, wordsIn, valueLaid, bandLaid, headLaid, layout, imageFor, fewBands, fewPoints, imageOf}
+use Rattle.image.proofs.SavedLaws.{bytes-for-length}
 use Rattle.image.proofs.Written.{from-point}
 use Rattle.image.proofs.ReadAgain as again
 use Rattle.image.proofs.ReadAgain.{HeadFits, BandWords, bandRead}

@@ -1,6 +1,6 @@
 -- Every accepted image saves back to the same bytes. Assumes nothing.
 use Prim.Native.Nat.{ℕ, zero, suc, _+_, _*_, _/_, _%_, _-_, _^_, _<_, _≤_}
-use mathlib.Core.Path.{_≡_, refl, sym, ap, _∙_}
+use mathlib.Core.Path.{_≡_, refl, ap, _∙_}
 use mathlib.Core.Bool.{Bool, true, false, not, _&&_, _||_, cond}
 use mathlib.Core.List.{List, [], _∷_, _++_}
 use native.Mathlib.Omega.{arith}
@@ -8,12 +8,12 @@ use native.Mathlib.Nat.{mod-lt}
 use borrow.Author.Tests.{lt-ltb, le-ltb, ltb-true, leb-true, eqb-true}
 use lib.Dec.{T, eqb, leb, ltb}
 use lib.ListN.{length, getD}
-use lib.Ieee.{Float, nan, binary64, ofBits, isNan, lt, le}
+use lib.Ieee.{nan, binary64, ofBits, isNan, lt, le}
 use lib.Ieee.Bits.{toBits-ofBits}
 use lib.Ieee.Scale.{finite}
 use Rattle.numbers.specs.Floats.{zero64}
-use Rattle.numbers.specs.Loops.{tab, every}
-use Rattle.numbers.specs.Outcome.{Outcome, gave, unless}
+use Rattle.numbers.specs.Loops.{tab}
+use Rattle.numbers.specs.Outcome.{gave}
 use Rattle.numbers.specs.Words.{toWord}
 use Rattle.numbers.proofs.LoopLaws.{length-tab, every-at}
 use Rattle.numbers.proofs.Lanes.{tab-same, tab-get}
@@ -21,7 +21,6 @@ use Rattle.numbers.proofs.Order.{and-1, and-2, le-right, lt-right}
 use Rattle.numbers.proofs.Given.{gave-same, unless-given}
 use Rattle.numbers.proofs.Unit.{number-is}
 use Rattle.bands.specs.declared.Value.{Value}
-use Rattle.bands.specs.declared.Value.the-variants.{Constant, Linear}
 use Rattle.bands.specs.declared.Band.{Band}
 use Rattle.bands.specs.Lookup as bands
 use Rattle.bands.specs.Rules.{valueFinite, valuePositive, placed, bandHolds}
@@ -33,11 +32,11 @@ use Rattle.packing.specs.Packing as words
 use Rattle.packing.specs.Packing.{at, bandAt, pointAt, symmetryWord, symmetryOf, kindWord, firstWord, secondWord, valueOf, bandWords, bandIn, bandsWord, number, pointsHeld, headWords, wordsOf, fieldsOf}
 use Rattle.packing.proofs.Sound.{Sound, sound}
 use Rattle.image.specs.Bytes.{numberAt}
-use Rattle.image.specs.Image.{bandFrom, bytesFor, madeIn, countIn, pointsIn, headIn, bandWord, pointWord, wordsIn, valueLaid, bandLaid, layout, imageFor, fewBands, fewPoints, imageOf}
-use Rattle.image.proofs.LayoutLaws.{Head, Layout, layout-facts}
+use Rattle.image.specs.Image.{bandFrom, countIn, pointsIn, headIn, bandWord, pointWord, wordsIn, valueLaid, bandLaid, layout, imageFor, fewBands, fewPoints, imageOf}
+use Rattle.image.proofs.LayoutLaws.{Layout, layout-facts}
 use Rattle.image.proofs.ReadAgain.{bandRead}
 use Rattle.image.proofs.Spans.{number-small}
-use Rattle.image.proofs.SavedBytes.{word-at, point-at, word-is, point-is, bytes-again}
+use Rattle.image.proofs.SavedBytes.{word-is, point-is, bytes-again}
 
 -- ---- bits that are no NaN's are a number's bits
 not-nan : (t : Bool) → t ≡ false → T (not t)
@@ -154,9 +153,6 @@ module _ (s : List ℕ) (small : (i : ℕ) → getD s i 0 < 256) (lay : Layout s
 
   -- ---- a band
   module _ (i : ℕ) (h : i < n) where
-    x : ℕ → ℕ
-    x k = bandRead s i k
-
     band-is : bands.bandOf (j .request .plan) i ≡ bandFor (bandRead s i 0) (bandRead s i 1) (bandRead s i 2) (bandRead s i 3) (bandRead s i 4) (bandRead s i 5) (bandRead s i 6) (bandRead s i 7)
     unfolding fieldsOf
     band-is =

@@ -1,22 +1,19 @@
 -- The words of bytes that hold the layout, written again, are those bytes. Assumes nothing.
-use Prim.Native.Nat.{ℕ, zero, suc, _+_, _*_, _/_, _%_, _-_, _<_, _≤_}
+use Prim.Native.Nat.{ℕ, _+_, _*_, _/_, _%_, _-_, _<_, _≤_}
 use mathlib.Core.Path.{_≡_, refl, sym, ap, _∙_}
-use mathlib.Core.Bool.{Bool, true, cond}
-use mathlib.Core.List.{List, [], _∷_, _++_}
+use mathlib.Core.Bool.{cond}
+use mathlib.Core.List.{List, _++_}
 use native.Mathlib.Omega.{arith}
-use native.Mathlib.Nat.{mul-zero, add-zero}
 use borrow.Author.Tests.{lt-ltb}
-use lib.Dec.{ltb}
 use lib.ListN.{length, getD, take}
 use lib.Seq.{take-length}
-use Rattle.numbers.specs.Loops.{tab}
 use Rattle.packing.specs.Packing.{at, bandAt, pointAt}
 use Rattle.packing.proofs.Places.{band-part, point-part, whose}
 use Rattle.image.specs.Bytes.{bytesOf, numberAt}
-use Rattle.image.specs.Image.{lengthFor, bandFrom, mark, headOf, bandOf, wordPart, parts, bytesFor, countIn, pointsIn, headIn, bandWord, pointWord, wordsIn}
-use Rattle.image.proofs.LayoutLaws.{Head, Layout}
+use Rattle.image.specs.Image.{bandFrom, mark, headOf, bandOf, wordPart, parts, bytesFor, countIn, pointsIn, headIn, bandWord, pointWord, wordsIn}
+use Rattle.image.proofs.LayoutLaws.{Layout}
 use Rattle.image.proofs.ReadAgain.{bandRead}
-use Rattle.image.proofs.Spans.{span, span-add, number-small, bytes-back, parts-span, mark-is}
+use Rattle.image.proofs.Spans.{span, span-add, bytes-back, parts-span, mark-is}
 
 joined : (s : List ℕ) (i j k r : ℕ) (x y : List ℕ) → i + k ≡ j → x ≡ span s i k → y ≡ span s j r → x ++ y ≡ span s i (k + r)
 joined s i j k r x y e a b = ap (λ l. l ++ y) a ∙ ap (λ l. span s i k ++ l) b ∙ sym (span-add s i j k r e)

@@ -1,15 +1,15 @@
 -- Bytes that are read as numbers and written again are the bytes. Assumes nothing.
 use Prim.Native.Nat.{ℕ, zero, suc, _+_, _*_, _/_, _%_, _-_, _^_, _<_, _≤_}
 use mathlib.Core.Path.{_≡_, refl, sym, ap, _∙_}
-use mathlib.Core.Bool.{Bool, true, _&&_}
-use mathlib.Core.List.{List, [], _∷_, _++_}
+use mathlib.Core.Bool.{true, _&&_}
+use mathlib.Core.List.{List, _∷_, _++_}
 use native.Mathlib.Omega.{arith}
 use native.Mathlib.Nat.{pow-succ', mul-zero, mul-suc}
 use native.Mathlib.Numerals.{add-one}
 use borrow.Author.Tests.{eqb-true}
 use lib.Dec.{eqb}
 use lib.ListN.{length, getD, take, drop}
-use lib.Seq.{drop-cons, drop-drop, take-add, take-length}
+use lib.Seq.{drop-cons, drop-drop, take-add}
 use Rattle.numbers.proofs.Order.{and-1, and-2}
 use Rattle.image.specs.Bytes.{bytesOf, numberOf, numberAt}
 use Rattle.image.specs.Image.{mark, marked, parts}

@@ -1,12 +1,12 @@
 -- What is read from the bytes that words are written as: the words. Assumes nothing.
-use Prim.Native.Nat.{ℕ, zero, suc, _+_, _*_, _/_, _%_, _-_, _^_, _<_, _≤_}
-use mathlib.Core.Path.{_≡_, refl, sym, ap, _∙_}
-use mathlib.Core.List.{List, [], _∷_, _++_, append-assoc}
+use Prim.Native.Nat.{ℕ, zero, suc, _+_, _*_, _/_, _-_, _^_, _<_}
+use mathlib.Core.Path.{_≡_, sym, ap, _∙_}
+use mathlib.Core.List.{List, _++_, append-assoc}
 use native.Mathlib.Omega.{arith}
-use native.Mathlib.Nat.{div-lt-iff-lt-mul, mul-comm, pow-succ', add-zero, not-suc-le-zero}
-use lib.ListN.{length, take, drop, length-append}
+use native.Mathlib.Nat.{div-lt-iff-lt-mul, mul-comm, pow-succ', add-zero}
+use lib.ListN.{length, take, length-append}
 use lib.Seq.{take-at, drop-append-add}
-use Rattle.packing.specs.Packing.{at, bandAt}
+use Rattle.packing.specs.Packing.{at}
 use Rattle.image.specs.Bytes.{bytesOf, numberOf, numberAt}
 use Rattle.image.specs.Image.{bandFrom, headOf, bandOf, wordPart, parts, bytesFor}
 use Rattle.image.proofs.BytesLaws.{bytes-length}

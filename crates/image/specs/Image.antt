@@ -1,12 +1,11 @@
 -- The image of a job (document 01, "The image"): "RXS", version 1, and the fields, a byte or two or eight each; per band 50 bytes; then
 -- the points. Nothing derived is kept.
 use Prim.Native.Nat.{ℕ, zero, suc, _+_, _*_, _/_, _%_, _-_}
-use mathlib.Core.Path.{_≡_}
-use mathlib.Core.Bool.{Bool, true, false, _&&_, _||_, cond}
+use mathlib.Core.Bool.{Bool, _&&_, _||_, cond}
 use mathlib.Core.List.{List, [], _∷_, _++_}
 use lib.Dec.{eqb, leb, ltb}
 use lib.ListN.{length, take, drop, getD}
-use lib.Ieee.{Float, binary64, ofBits}
+use lib.Ieee.{binary64, ofBits}
 use Rattle.numbers.specs.Loops.{tab, every}
 use Rattle.numbers.specs.Outcome.{Outcome, gave, unless}
 use Rattle.bands.specs.declared.Symmetry.{Symmetry}

@@ -1,20 +1,18 @@
 -- Where each word of the fields stands, and that words of alike fields are the same. Assumes nothing.
-use Prim.Native.Nat.{ℕ, _+_, _*_, _/_, _%_, _<_, _≤_}
+use Prim.Native.Nat.{ℕ, _+_, _*_, _/_, _%_, _<_}
 use mathlib.Core.Path.{_≡_, refl, sym, ap, _∙_}
 use mathlib.Core.Bool.{Bool, true, false, cond}
 use mathlib.Core.List.{List, _++_}
 use native.Mathlib.Omega.{arith}
 use borrow.Author.Tests.{ltb-true}
-use lib.Dec.{ltb, eqb}
-use lib.ListN.{length, getD, take, List·getD-append}
+use lib.Dec.{ltb}
+use lib.ListN.{length, getD, List·getD-append}
 use lib.Seq.{getD-append-add, getD-take}
-use lib.Ieee.{Float, nan}
+use lib.Ieee.{nan}
 use Rattle.numbers.specs.Loops.{tab}
 use Rattle.numbers.specs.Words.{toWord}
 use Rattle.numbers.proofs.LoopLaws.{length-tab}
 use Rattle.numbers.proofs.Lanes.{tab-same, tab-get}
-use Rattle.bands.specs.declared.Band.{Band}
-use Rattle.bands.specs.declared.Plan.{Plan}
 use Rattle.bands.specs.Lookup.{bandOf}
 use Rattle.fields.specs.declared.held.Fields.{Fields}
 use Rattle.packing.specs.Packing.{at, bandAt, pointAt, bandWords, bandsWord, pointsHeld, pointWord, headWords, wordsOf}

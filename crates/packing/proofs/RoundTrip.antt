@@ -2,11 +2,11 @@
 -- beyond those it holds, and packing them gives the same words. Assumes nothing.
 use Prim.Native.Nat.{ℕ, _+_, _<_, _≤_}
 use mathlib.Core.Path.{_≡_, refl, sym, ap, _∙_}
-use mathlib.Core.Bool.{Bool, true, false, not, _&&_, cond}
+use mathlib.Core.Bool.{Bool, true, false, _&&_, cond}
 use mathlib.Core.List.{List}
 use native.Mathlib.Omega.{arith}
 use borrow.Author.Tests.{lt-ltb}
-use lib.Dec.{T, ltb, eqb}
+use lib.Dec.{T, eqb}
 use lib.ListN.{length, getD, take}
 use lib.Seq.{getD-take, length-take-le, ext-getD}
 use lib.Ieee.{Float, nan, binary64, ofBits, isNan, fits, lt, le}
@@ -31,7 +31,7 @@ use Rattle.fields.specs.declared.held.Fields.{Fields}
 use Rattle.fields.specs.Request.{pointsOf}
 use Rattle.fields.specs.Interpolant.{Interpolation}
 use Rattle.fields.specs.Accept.{acceptOf}
-use Rattle.packing.specs.Packing.{at, bandAt, pointAt, symmetryWord, symmetryOf, kindWord, firstWord, secondWord, valueOf, bandWords, bandsWord, bandIn, number, pointsHeld, pointWord, wordsOf, fieldsOf}
+use Rattle.packing.specs.Packing.{at, bandAt, pointAt, symmetryWord, symmetryOf, kindWord, firstWord, secondWord, valueOf, bandWords, bandIn, number, pointsHeld, wordsOf, fieldsOf}
 use Rattle.packing.specs.Alike.{ValueFits, BandFits, Stored, Alike}
 use Rattle.packing.proofs.Sound.{Sound, sound}
 use Rattle.packing.proofs.Places.{band-word, point-word, words-alike}

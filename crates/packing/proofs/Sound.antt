@@ -1,19 +1,18 @@
 -- What the fields of an accepted job are, as far as their words need it: counts in range, bands that hold the rules, and no NaN. Assumes nothing.
 use Prim.Native.Nat.{ℕ, _<_, _≤_}
-use mathlib.Core.Path.{_≡_, refl, sym, ap, _∙_}
+use mathlib.Core.Path.{_≡_, sym, ap, _∙_}
 use mathlib.Core.Bool.{Bool, true, false, not, _&&_, _||_, cond}
 use mathlib.Core.List.{List}
 use native.Mathlib.Omega.{arith}
 use native.Mathlib.Nat.{not-suc-le-zero}
 use borrow.Author.Tests.{leb-true}
 use lib.Dec.{leb, ltb, eqb}
-use lib.ListN.{length, getD, take}
+use lib.ListN.{length, getD}
 use lib.Seq.{getD-take, length-take-le}
 use lib.Ieee.{Float, nan, isNan, le, eq}
-use lib.Ieee.Scale.{finite}
-use Rattle.numbers.specs.Floats.{zero64, one64, sign, allFinite}
+use Rattle.numbers.specs.Floats.{zero64, one64, sign}
 use Rattle.numbers.specs.Loops.{every}
-use Rattle.numbers.specs.Outcome.{Outcome, gave, bind, unless, neededListOf}
+use Rattle.numbers.specs.Outcome.{gave, bind, unless, neededListOf}
 use Rattle.numbers.proofs.LoopLaws.{every-at}
 use Rattle.numbers.proofs.Order.{and-1, and-2, le-right}
 use Rattle.numbers.proofs.Given.{unless-given, bind-given, needed-list-given}

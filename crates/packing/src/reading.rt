@@ -2,7 +2,7 @@ ghost use mathlib.Core.Path.{_≡_};
 ghost use Prim.Native.Nat.{_<_};
 ghost use lib.Ieee.{binary64, ofBits};
 ghost use Rattle.numbers.specs.Loops.{tab};
-ghost use Rattle.packing.specs.Packing.{at, number, symmetryOf, valueOf, bandIn, bandAt, pointAt, planIn, requestIn};
+ghost use Rattle.packing.specs.Packing.{at, number, symmetryOf, valueOf, bandIn, pointAt, planIn, requestIn};
 use bands::Band;
 use bands::Plan;
 use bands::Symmetry;
