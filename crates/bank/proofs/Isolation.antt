@@ -56,14 +56,14 @@ module _ (σ : Sizes) (wide : 139 ≤ σ .slot) (call : Call) (j : ℕ) (bank sc
   unfolding bankCall
   call-same = same-after G refl
 
-  call-other : (i : ℕ) → (j ≡ i → ⊥) → slotOf σ bank′ i ≡ slotOf σ bank i
+  pub call-other : (i : ℕ) → (j ≡ i → ⊥) → slotOf σ bank′ i ≡ slotOf σ bank i
   unfolding bankCall
   call-other i h = other-after G i refl h
 
   abbrev mine : Own
   mine = record { spare = length scratch; call = call }
 
-  call-mine : (i : ℕ) → j ≡ i → slotOf σ bank′ i ≡ slotCall σ (length bank) i mine (slotOf σ bank i) .slot
+  pub call-mine : (i : ℕ) → j ≡ i → slotOf σ bank′ i ≡ slotCall σ (length bank) i mine (slotOf σ bank i) .slot
   call-mine i h = subst (λ (k : ℕ). slotOf σ bank′ k ≡ slotCall σ (length bank) k mine (slotOf σ bank k) .slot) h call-same
 
   abbrev shows : ℕ → Shown

@@ -4,3 +4,6 @@ pub mod Isolation
 pub mod Loading
 pub mod Refusals
 pub mod Memory
+pub mod LoadedAgain
+pub mod Settled
+pub mod Unique

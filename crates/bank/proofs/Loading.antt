@@ -1,14 +1,14 @@
 -- What a slot's words tell where a job is loaded from them: packing it gives the same words, its fields are accepted and its state agrees.
 -- Assumes nothing.
-use Prim.Native.Nat.{ℕ, zero, suc}
-use mathlib.Core.Path.{_≡_, refl, sym, ap, _∙_}
-use mathlib.Core.Bool.{Bool, true, false, _&&_, cond}
+use Prim.Native.Nat.{ℕ}
+use mathlib.Core.Path.{_≡_, refl}
+use mathlib.Core.Bool.{Bool, true, false, cond}
 use mathlib.Core.List.{List, [], _∷_}
 use native.Mathlib.Omega.{arith}
 use borrow.Author.Tests.{eqb-true}
 use lib.Dec.{eqb}
 use lib.ListN.{length, drop}
-use Rattle.numbers.specs.Outcome.{Outcome, refused, gave, bind, unless}
+use Rattle.numbers.specs.Outcome.{Outcome, refused, gave, unless}
 use Rattle.numbers.proofs.Given.{unless-given, bind-given}
 use Rattle.numbers.proofs.LoopLaws.{length-tab}
 use Rattle.numbers.proofs.Order.{and-1, and-2}
@@ -18,7 +18,7 @@ use Rattle.fields.specs.Accept.{acceptOf}
 use Rattle.exchange.specs.Job.{Held, agrees, four, jobFor}
 use Rattle.exchange.proofs.DesignLaws.{job-accepted}
 use Rattle.bank.specs.Sizes.{allZero, same}
-use Rattle.bank.specs.Slot.{slotWords, heldIn, isGiven, isJob, Loaded, empty, broken, holds, loadOf}
+use Rattle.bank.specs.Slot.{slotWords, heldIn, isGiven, isJob, empty, broken, holds, loadOf}
 
 -- `same` is true of equal lists alone
 pub same-is : (xs ys : List ℕ) → same xs ys ≡ true → xs ≡ ys
@@ -48,7 +48,7 @@ pub record Holding (ws : List ℕ) (j : Held) : Type 0 where
   pub agreeing : agrees (j .fields) (j .standing) ≡ true
   pub room : length (j .fields .points) ≡ 65
 
-job-agrees : (j : Held) (i : Interpolation) → jobFor j ≡ gave i → agrees (j .fields) (j .standing) ≡ true
+pub job-agrees : (j : Held) (i : Interpolation) → jobFor j ≡ gave i → agrees (j .fields) (j .standing) ≡ true
 unfolding jobFor
 job-agrees j i e =
     let t = agrees (j .fields) (j .standing) in

@@ -1,17 +1,16 @@
 -- What calls leave of bank and scratch, over any sizes: a bank, a scratch or an output below its size is refused with 1, and nothing is
 -- touched; after every other call the scratch's words are zero; words beyond the sizes stay. Assumes nothing.
-use Prim.Native.Nat.{ℕ, zero, suc, _+_, _*_, _-_, _≤_, _<_}
-use mathlib.Core.Path.{_≡_, refl, sym, ap, _∙_}
+use Prim.Native.Nat.{ℕ, zero, suc, _*_, _≤_, _<_}
+use mathlib.Core.Path.{_≡_, refl, ap, _∙_}
 use mathlib.Core.Bool.{Bool, true, false, cond}
-use mathlib.Core.List.{List, _++_}
+use mathlib.Core.List.{List}
 use native.Mathlib.Omega.{arith}
 use borrow.Author.Tests.{ltb-true, ltb-false, lt-ltb}
 use lib.Dec.{ltb, leb}
-use lib.Ieee.{Float}
 use lib.ListN.{length, take, drop, replicate, length-append, length-drop, length-replicate}
 use lib.Seq.{take-at, drop-at}
 use mathlib.Core.Logic.{_⊎_, inl, inr}
-use Rattle.bank.specs.Sizes.{Sizes, wiped, slotOf, putSlot}
+use Rattle.bank.specs.Sizes.{Sizes, wiped, slotOf}
 use Rattle.bank.specs.Calls.{Call, plainly, tapsOf, freqsOf, bytesOf, onSlot, room}
 use Rattle.bank.specs.Bank.{gateOf, passed, placed, cleaned, Done, ended, bankCall}
 use Rattle.bank.proofs.Parts.{put-beyond}

@@ -5,7 +5,6 @@ use mathlib.Core.Path.{_≡_, refl, sym, ap, _∙_}
 use mathlib.Core.Bool.{Bool, true, false, not}
 use mathlib.Core.List.{List, _++_}
 use mathlib.Core.Logic.{_⊎_, inl, inr}
-use native.Mathlib.Omega.{arith}
 use lib.Dec.{leb}
 use lib.Ieee.{Float}
 use lib.ListN.{length, take, drop, take-append-drop}
@@ -13,7 +12,7 @@ use Rattle.numbers.specs.Outcome.{Outcome, refused, gave, bind}
 use Rattle.numbers.proofs.Given.{gave-same, never-given, unless-given, bind-given}
 use Rattle.fields.specs.declared.held.Fields.{Fields}
 use Rattle.fields.specs.Interpolant.{Interpolation}
-use Rattle.fields.specs.Accept.{finished}
+use Rattle.fields.specs.Accept.{acceptOf, finished}
 use Rattle.exchange.specs.Exchange.{exchanged}
 use Rattle.exchange.specs.Job.{Standing, running, done, failed, Held, held, agrees, jobFor}
 use Rattle.exchange.specs.Step.{readyBy, readyFor, settled, steppedBy, stepOf}
@@ -22,9 +21,9 @@ use Rattle.exchange.proofs.StepFacts.{exchange-refuses}
 use Rattle.bank.specs.Sizes.{Sizes, slotOf, putSlot}
 use Rattle.bank.specs.Slot.{slotWords, Loaded, empty, broken, holds, loadOf}
 use Rattle.bank.specs.Calls.{Call, open′, step, read, save, restore, clear, plainly, Result, tapsOf, freqsOf, bytesOf, gives, openFor, restoreFor, placing, answered, stepHeld, reading, saveBy, saving, onLoaded, onSlot, room}
-use Rattle.bank.specs.Bank.{gateOf, passed, placed, cleaned, Done, ended, bankCall}
+use Rattle.bank.specs.Bank.{gateOf, passed, placed, Done, ended, bankCall}
 use Rattle.bank.proofs.Laws.{inside, slotOf-length}
-use Rattle.bank.proofs.Loading.{Holding, holding}
+use Rattle.bank.proofs.Loading.{holding}
 
 -- ---- on a slot
 -- the number alone is told; the slot's words and the outputs are as they were
@@ -62,16 +61,16 @@ saving-same ws out (refused n) h = gives-same (save out) n ws
 saving-same ws out (gave s) h = absurd (h refl)
 
 -- ---- a step on a job
-record Ready (j : Held) (i : Interpolation) : Type 0 where
-  runs : j .standing ≡ running
-  job : jobFor j ≡ gave i
+pub record Ready (j : Held) (i : Interpolation) : Type 0 where
+  pub runs : j .standing ≡ running
+  pub job : jobFor j ≡ gave i
 
 ready-by : (s : Standing) (i k : Interpolation) → readyBy s i ≡ gave k → (s ≡ running) × (i ≡ k)
 ready-by running i k e = (refl, gave-same e)
 ready-by done i k e = absurd (never-given e)
 ready-by (failed n) i k e = absurd (never-given e)
 
-ready : (j : Held) (words : ℕ) (i : Interpolation) → readyFor j words ≡ gave i → Ready j i
+pub ready : (j : Held) (words : ℕ) (i : Interpolation) → readyFor j words ≡ gave i → Ready j i
 unfolding readyFor
 ready j words i e =
     let a = unless-given (leb 2482 words) 1 (bind (jobFor j) (readyBy (j .standing))) e in
@@ -90,12 +89,18 @@ module _ (ws : List ℕ) (j : Held) (loaded : loadOf ws ≡ holds j) where
   abbrev ends : Outcome Fields → Result
   ends o = let next = settled j o in gives step (answered (next .answer)) (slotWords (length ws) (next .job))
 
+  pub step-going : (i : Interpolation) → Ready j i → finished (j .fields) ≡ false
+  step-going i r = not-false (finished (j .fields)) (sym (ap (agrees (j .fields)) (r .runs)) ∙ holding ws j loaded .agreeing)
+
+  pub step-accepted : (i : Interpolation) → Ready j i → acceptOf (j .fields) ≡ gave i
+  step-accepted i r = let k = holding ws j loaded in k .accepted ∙ sym (k .job) ∙ r .job
+
+  pub step-range : (i : Interpolation) → Ready j i → (n : ℕ) → exchanged (j .fields) i ≡ refused n → (9 ≤ n) × (n ≤ 13)
+  step-range i r n e = exchange-refuses (j .fields) i (holding ws j loaded .room) (step-accepted i r) (step-going i r) .is n e
+
   failing : (i : Interpolation) → Ready j i → (o : Outcome Fields) → exchanged (j .fields) i ≡ o → (ends o .told .number ≡ 0 → ⊥) → Failing step ws (ends o)
   failing i r (refused n) e h =
-      let k = holding ws j loaded in
-      let going : finished (j .fields) ≡ false = not-false (finished (j .fields)) (sym (ap (agrees (j .fields)) (r .runs)) ∙ k .agreeing) in
-      let same : k .interpolation ≡ i = gave-same (sym (k .job) ∙ r .job) in
-      let b = exchange-refuses (j .fields) i (k .room) (k .accepted ∙ ap gave same) going .is n e in
+      let b = step-range i r n e in
       record { is-step = refl; job = j; loaded = loaded; runs = r .runs; number = n; least = b .0; most = b .1; is = refl }
   failing i r (gave f) e h = absurd (h refl)
 

@@ -63,7 +63,7 @@ agrees-by f = go (finished f) refl
     go true e = e
     go false e = rw e
 
-job-by : (f : Fields) (i : Interpolation) → acceptOf f ≡ gave i → jobFor (held f (standingBy f)) ≡ gave i
+pub job-by : (f : Fields) (i : Interpolation) → acceptOf f ≡ gave i → jobFor (held f (standingBy f)) ≡ gave i
 unfolding jobFor
 job-by f i e = rw (e, agrees-by f)
 
