@@ -1,4 +1,8 @@
 // Text as the gate programs read it: words between blanks, numerals in them, and remarks from a `#` to the end of its line.
+mod fraction;
+
+pub use fraction::Fraction;
+pub use fraction::plain;
 ghost use mathlib.Core.Path.{_≡_};
 ghost use Prim.Native.Nat.{_+_};
 ghost use lib.ListN.{drop};
@@ -93,7 +97,7 @@ pub fn next(s: &[u8], at: usize) -> Token
     }
 }
 
-fn part(s: &[u8], from: usize, to: usize) -> &[u8]
+pub(crate) fn part(s: &[u8], from: usize, to: usize) -> &[u8]
     ensures { λ r. ⌜ now r ≡ partOf (now (s .entry)) from to ⌝ }
 {
     if from <= to {
