@@ -1,5 +1,14 @@
 // Stored cases as the gate's programs replay them: words, whole numbers and lists of numbers by their bits (oracle/README.md has the
 // format). What cannot be read is told by `good`.
+mod plans;
+
+pub use plans::Banded;
+pub use plans::Planned;
+pub use plans::band_at;
+pub use plans::written_at;
+pub use plans::plan_at;
+pub use plans::symmetry_of;
+pub use plans::written_in;
 ghost use mathlib.Core.Path.{_≡_};
 ghost use Rattle.numbers.specs.Loops.{every};
 ghost use Rattle.cases.specs.Cases.{nothing, pastOf, wholeAt, numberIn, numbersAt, listAt, ReadInto, sameNumber, sameBits, finiteFront, caseOf};
