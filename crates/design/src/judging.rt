@@ -1,14 +1,13 @@
 // What came of a request beside what pm-remez answered. Where pm-remez fails, document 01 refuses; docs/DIFFERENCES.md has the rest.
+use crate::asking::Title;
+use crate::running::Run;
 use cases::are_finite;
 use cases::are_same;
 use cases::is_same;
 use cases::list_into;
-use cases::written_at;
 use cases::past;
 use cases::whole_at;
-use exchange::Report;
-use fields::Request;
-use numbers::Verdict;
+use cases::written_at;
 use text::Token;
 
 pub(crate) enum Judged {
@@ -20,6 +19,10 @@ pub(crate) enum Judged {
     Refused(u64),
     // A panic of pm-remez at a derivative of one coefficient, which is no refusal here.
     OneCoefficient,
+    // Not the same, after a band of no length that pm-remez keeps was removed here.
+    Removed,
+    // Refused with 9 or 11, where pm-remez goes on with a number that is not finite or a 65th pass.
+    WentOn,
 }
 
 // Whether the next word is the name.
@@ -91,54 +94,51 @@ fn said_at(s: &[u8], at: usize, taps: &mut [f64], freqs: &mut [f64]) -> Said {
 }
 
 fn all(a: bool, b: bool, c: bool) -> bool {
-    if a {
-        if b { c } else { false }
-    } else {
-        false
-    }
+    if a { if b { c } else { false } } else { false }
 }
 
 fn is_finite(said: Said, taps: &[f64], freqs: &[f64]) -> bool {
-    let lists = all(are_finite(taps, said.taps), are_finite(freqs, said.freqs), true);
-    all(lists, numbers::is_finite(said.flatness), numbers::is_finite(said.error))
+    let lists = all(
+        are_finite(taps, said.taps),
+        are_finite(freqs, said.freqs),
+        true,
+    );
+    all(
+        lists,
+        numbers::is_finite(said.flatness),
+        numbers::is_finite(said.error),
+    )
 }
 
 // Iterations, flatness, error, every tap and every frequency.
 fn is_same_design(
-    request: Request,
-    report: Report,
+    title: Title,
+    run: Run,
     taps: &[f64],
     freqs: &[f64],
     said: Said,
     said_taps: &[f64],
     said_freqs: &[f64],
 ) -> bool {
-    let points = std::num::wrapping_add_usize(request.functions(), 1);
+    let points = title.points;
     let counts = all(
-        report.iterations == said.iterations,
-        request.taps == said.taps,
+        run.made == said.iterations,
+        title.taps == said.taps,
         points == said.freqs,
     );
     let numbers = all(
         counts,
-        is_same(report.flatness, said.flatness),
-        is_same(report.error, said.error),
+        is_same(run.flatness, said.flatness),
+        is_same(run.error, said.error),
     );
     all(
         numbers,
-        are_same(taps, said_taps, request.taps),
+        are_same(taps, said_taps, title.taps),
         are_same(freqs, said_freqs, points),
     )
 }
 
-fn designed(
-    s: &[u8],
-    at: usize,
-    request: Request,
-    report: Report,
-    taps: &[f64],
-    freqs: &[f64],
-) -> Judged {
+fn designed(s: &[u8], at: usize, title: Title, run: Run, taps: &[f64], freqs: &[f64]) -> Judged {
     let mut said_taps = [0.0; 128];
     let mut said_freqs = [0.0; 65];
     let said = said_at(s, at, &mut said_taps, &mut said_freqs);
@@ -146,43 +146,60 @@ fn designed(
         return Judged::Wrong;
     }
     let finite = is_finite(said, &said_taps, &said_freqs);
-    let n = refusal(report);
+    let n = run.refusal;
     if n != 0 {
         return refused_if(n, all(n == 9, !finite, true));
     }
     if !finite {
         return Judged::Wrong;
     }
-    if is_same_design(request, report, taps, freqs, said, &said_taps, &said_freqs) {
+    if is_same_design(title, run, taps, freqs, said, &said_taps, &said_freqs) {
         Judged::Same
     } else {
         Judged::Wrong
     }
 }
 
-// The number of a refusal, 0 where there is none.
-pub(crate) fn refusal(report: Report) -> u64 {
-    let verdict = report.verdict;
-    match verdict {
-        Verdict::Taken => 0,
-        Verdict::Refused(why) => numbers::number(why),
+// The differences in which pm-remez goes on.
+fn otherwise(title: Title, n: u64) -> Judged {
+    if title.removed {
+        return Judged::Removed;
     }
+    if n == 9 {
+        return Judged::WentOn;
+    }
+    if n == 11 {
+        return Judged::WentOn;
+    }
+    Judged::Wrong
+}
+
+fn plainly(s: &[u8], at: usize, title: Title, run: Run, taps: &[f64], freqs: &[f64]) -> Judged {
+    if is_word(s, at, b"failed") {
+        return failed(s, past(s, at), run.refusal);
+    }
+    if is_word(s, at, b"design") {
+        return designed(s, past(s, at), title, run, taps, freqs);
+    }
+    Judged::Wrong
 }
 
 // Beside the answer after the word `answer`.
-pub(crate) fn judged(
+pub(crate) fn beside(
     s: &[u8],
     at: usize,
-    request: Request,
-    report: Report,
+    title: Title,
+    run: Run,
     taps: &[f64],
     freqs: &[f64],
 ) -> Judged {
-    if is_word(s, at, b"failed") {
-        return failed(s, past(s, at), refusal(report));
+    let j = plainly(s, at, title, run, taps, freqs);
+    match j {
+        Judged::Wrong => otherwise(title, run.refusal),
+        Judged::Same => Judged::Same,
+        Judged::Refused(n) => Judged::Refused(n),
+        Judged::OneCoefficient => Judged::OneCoefficient,
+        Judged::Removed => Judged::Removed,
+        Judged::WentOn => Judged::WentOn,
     }
-    if is_word(s, at, b"design") {
-        return designed(s, past(s, at), request, report, taps, freqs);
-    }
-    Judged::Wrong
 }

@@ -1,12 +1,12 @@
 // Designs the filters that standard input asks for. A request followed by an answer of pm-remez is compared with it, bit for bit.
-mod asked;
+mod asking;
 mod judging;
 mod page;
 mod running;
 mod saying;
 mod tally;
 
-use asked::Asked;
+use asking::Asked;
 use judging::Judged;
 use libc::STDIN_FILENO;
 use saying::say;
@@ -15,51 +15,55 @@ use tally::Tally;
 use text::Token;
 
 // The requests have to be shorter.
-const ROOM: usize = 1048576;
+const ROOM: usize = 524288;
 
-fn say_difference(t: Tally, n: u64) {
-    say(b"WRONG: request ");
+// Which of the requests that are compared, counted from 0, and what came of it here.
+fn say_case(t: Tally, n: u64, made: usize) {
     say_whole(t.asked);
-    say(b" of those compared, counted from 0; here ");
     if n == 0 {
-        say(b"a design\n");
+        say(b": a design\n");
     } else {
-        say(b"refused with ");
+        say(b": refused with ");
         say_whole(n);
+        say(b" after exchange ");
+        say_whole(made as u64);
         say(b"\n");
     }
 }
 
-fn is_wrong(judged: Judged) -> bool {
+fn say_difference(judged: Judged, t: Tally, n: u64, made: usize) {
     match judged {
-        Judged::Wrong => true,
-        Judged::Same => false,
-        Judged::Refused(_) => false,
-        Judged::OneCoefficient => false,
+        Judged::Wrong => {
+            say(b"WRONG: request ");
+            say_case(t, n, made);
+        }
+        Judged::WentOn => {
+            say(b"pm-remez goes on: request ");
+            say_case(t, n, made);
+        }
+        _ => (),
     }
 }
 
 // A request that could be read: printed, or compared with the answer that follows it.
 fn done(s: &[u8], asked: Asked, t: Tally) -> Tally {
     let accepted = asked.accepted;
-    let request = accepted.request;
+    let title = asked.title;
     let mut taps = [0.0; 128];
     let mut freqs = [0.0; 65];
-    let report = running::design(accepted, &mut taps, &mut freqs);
+    let run = running::design(accepted, &mut taps, &mut freqs);
     if !judging::is_word(s, asked.at, b"answer") {
-        page::say_design(request, report, &taps, &freqs);
+        page::say_design(title, run, &taps, &freqs);
         return t;
     }
     let at = cases::past(s, asked.at);
-    let judged = judging::judged(s, at, request, report, &taps, &freqs);
-    if is_wrong(judged) {
-        say_difference(t, judging::refusal(report));
-    }
-    tally::with(t, judged, request, report)
+    let judged = judging::beside(s, at, title, run, &taps, &freqs);
+    say_difference(judged, t, run.refusal, run.made);
+    tally::with(t, judged, title, run)
 }
 
-fn asked(s: &[u8], at: usize, t: Tally) -> Tally {
-    let a = asked::asked_at(s, at);
+fn answered(s: &[u8], at: usize, t: Tally) -> Tally {
+    let a = asking::asked_at(s, at);
     if a.good {
         done(s, a, t)
     } else {
@@ -78,7 +82,7 @@ fn tallied(s: &[u8]) -> Tally {
             return t;
         };
         if text::is(s, from, to, b"request") {
-            let u = asked(s, to, t);
+            let u = answered(s, to, t);
             t = u;
         }
         at = to;

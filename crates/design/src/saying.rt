@@ -15,7 +15,7 @@ struct Peeled {
     rest: f64,
 }
 
-fn peeled(x: f64) -> Peeled {
+fn peel(x: f64) -> Peeled {
     let mut rest = x;
     let mut digit: u64 = 0;
     while digit < 9 {
@@ -30,13 +30,13 @@ fn peeled(x: f64) -> Peeled {
 
 // A number from 0 to below 10.
 fn say_places(x: f64) {
-    let p = peeled(x);
+    let p = peel(x);
     say_whole(p.digit);
     say(b".");
     let mut rest = p.rest;
     let mut places: usize = 12;
     while places > 0 {
-        let q = peeled(rest * 10.0);
+        let q = peel(rest * 10.0);
         say_whole(q.digit);
         rest = q.rest;
         places -= 1;

@@ -42,7 +42,7 @@ loop-less : tie.Need-loop-less Inv-loop μ-loop
 loop-less c = search needs
 
 loop-again : tie.Need-loop-again Inv-loop μ-loop
-loop-again c = 
+loop-again c =
     rw (c .both .ensures, c .before .before .band-at .ensures)
     (plan-next (c .before .before .before .before .loop .inv) (c .before .before .before .loop-test .taken))
 
