@@ -7,3 +7,8 @@ pub mod Memory
 pub mod LoadedAgain
 pub mod Settled
 pub mod Unique
+pub mod WordLaws
+pub mod SlotLaws
+pub mod Judging
+pub mod CallLaws
+pub mod Ending

@@ -1,5 +1,5 @@
--- After a call on a bank whose slots are empty or jobs, every slot is empty or a job, where what the call opens, restores or steps to holds
--- numbers of binary64, as all that a program holds. Assumes nothing.
+-- After a call on a bank whose slots are empty or jobs, every slot is empty or a job, where what the call opens or steps to holds numbers of
+-- binary64, as all that a program holds. Assumes nothing.
 use Prim.Native.Nat.{ℕ, zero, suc, _-_, _≤_}
 use mathlib.Core.Path.{_≡_, refl, sym, ap, _∙_, subst}
 use mathlib.Core.Bool.{Bool, true, false, cond}
@@ -9,10 +9,11 @@ use borrow.Author.Tests.{eqb-true, eqb-false, le-leb}
 use lib.Dec.{eqb}
 use lib.Ieee.{Float}
 use lib.ListN.{length, drop, replicate}
-use Rattle.numbers.specs.Outcome.{Outcome, refused, gave, bind}
+use Rattle.numbers.specs.Outcome.{Outcome, refused, gave, bind, unless}
 use Rattle.numbers.proofs.Given.{gave-same, never-given, bind-given}
 use Rattle.packing.specs.Packing.{wordsOf, fieldsOf}
 use Rattle.packing.specs.Alike.{Stored}
+use Rattle.packing.proofs.ReadStored.{read-stored}
 use Rattle.fields.specs.declared.held.Fields.{Fields}
 use Rattle.fields.specs.Interpolant.{Interpolation}
 use Rattle.fields.specs.Accept.{acceptOf, opening}
@@ -22,7 +23,7 @@ use Rattle.exchange.specs.Job.{failed, Held, held, standingBy, agrees, jobFor}
 use Rattle.exchange.specs.Step.{readyFor, settled, steppedBy, stepOf}
 use Rattle.exchange.specs.Design.{Design, designFor}
 use Rattle.exchange.proofs.StepFacts.{exchange-leaves, job-by}
-use Rattle.image.specs.Image.{imageFor}
+use Rattle.image.specs.Image.{wordsIn, layout, imageFor}
 use Rattle.bank.specs.Sizes.{Sizes, allZero, slotOf}
 use Rattle.bank.specs.Slot.{slotWords, heldIn, isJob, Loaded, empty, broken, holds, loadOf}
 use Rattle.bank.specs.Calls.{Call, open′, step, read, save, restore, clear, openFor, restored, restoreFor, placing, stepHeld, reading, saveBy, saving, onLoaded, onSlot, room}
@@ -107,10 +108,6 @@ module _ (ws : List ℕ) (wide : 139 ≤ length ws) (j : Held) (loaded : loadOf 
   step-whole words stored = stepped-whole words (readyFor j words) refl stored
 
 -- ---- what a call would put into its slot holds numbers of binary64
-abbrev pub FieldsStored : Outcome Fields → Type 0
-FieldsStored (refused n) = Unit {0}
-FieldsStored (gave f) = Stored f
-
 abbrev pub Storable : Sizes → Call → Loaded → Type 0
 Storable σ (open′ r) l = Stored (opening r)
 Storable σ step empty = Unit {0}
@@ -118,8 +115,21 @@ Storable σ step broken = Unit {0}
 Storable σ step (holds j) = Stored (stepOf j (σ .scratch) .job .fields)
 Storable σ (read t f) l = Unit {0}
 Storable σ (save out) l = Unit {0}
-Storable σ (restore s) l = FieldsStored (imageFor s)
+Storable σ (restore s) l = Unit {0}
 Storable σ clear l = Unit {0}
+
+-- what is read from an image does so whatever its bytes
+abbrev FieldsStored : Outcome Fields → Type 0
+FieldsStored (refused n) = Unit {0}
+FieldsStored (gave f) = Stored f
+
+image-stored : (b : List ℕ) → FieldsStored (imageFor b)
+unfolding imageFor
+image-stored b = go (layout b)
+  where
+    go : (t : Bool) → FieldsStored (unless t 14 (gave (fieldsOf (wordsIn b))))
+    go true = read-stored (wordsIn b)
+    go false = tt
 
 restored-whole : (n : ℕ) → 139 ≤ n → (o : Outcome Fields) → FieldsStored o → (j : Held) → bind o restored ≡ gave j → EmptyOrJob (slotWords n j)
 restored-whole n wide (refused m) stored j e = absurd (never-given e)
@@ -141,7 +151,7 @@ loaded-settled σ (read t f) (holds j) ws wide e stored s = reading-whole ws t f
 loaded-settled σ (save out) empty ws wide e stored s = s
 loaded-settled σ (save out) broken ws wide e stored s = s
 loaded-settled σ (save out) (holds j) ws wide e stored s = saving-whole ws out (saveBy (j .standing) (j .fields)) s
-loaded-settled σ (restore b) empty ws wide e stored s = placing-whole (restore b) ws (restoreFor b) (restored-whole (length ws) wide (imageFor b) stored) s
+loaded-settled σ (restore b) empty ws wide e stored s = placing-whole (restore b) ws (restoreFor b) (restored-whole (length ws) wide (imageFor b) (image-stored b)) s
 loaded-settled σ (restore b) broken ws wide e stored s = s
 loaded-settled σ (restore b) (holds j) ws wide e stored s = s
 loaded-settled σ clear l ws wide e stored s = empty-whole (zeros-empty (length ws))

@@ -3,3 +3,4 @@ pub mod Slot
 pub mod Calls
 pub mod Bank
 pub mod Runs
+pub mod Content

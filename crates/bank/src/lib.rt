@@ -1,4 +1,18 @@
 // A bank of 16 jobs in lent memory: open, step, read, save, restore, clear.
+mod calls;
+mod slot;
+mod words;
+
+ghost use mathlib.Core.Path.{_≡_};
+ghost use mathlib.Core.Bool.{cond};
+ghost use mathlib.Core.List.{[]};
+ghost use lib.Dec.{eqb};
+ghost use lib.ListN.{length};
+ghost use Rattle.bank.specs.Sizes.{full};
+ghost use Rattle.bank.specs.Calls.{Call, toldBy, plainly, numberOf};
+ghost use Rattle.bank.specs.Bank.{gateOf, cleaned, bankCall, Ends};
+use fields::Request;
+use numbers::Refusal;
 use numbers::Verdict;
 
 // What a call answers: of a read the weighted error, the flatness and the iterations, of a save how many bytes were written; zero where
@@ -9,4 +23,89 @@ pub struct Answer {
     pub flatness: f64,
     pub iterations: usize,
     pub count: usize,
+}
+
+// The answer of a call that has nothing more to tell.
+pub(crate) fn plainly(verdict: Verdict) -> Answer
+    ensures { λ r. ⌜ toldBy r ≡ plainly (numberOf verdict) ⌝ }
+{
+    Answer {
+        verdict,
+        error: 0.0,
+        flatness: 0.0,
+        iterations: 0,
+        count: 0,
+    }
+}
+
+// Refusals 1 and 2, else 0. Past refusal 1 the scratch is wiped.
+fn gate(words: usize, scratch: &mut [u64], slot: usize, room: bool) -> u64
+    ensures { λ r. ⌜ r ≡ gateOf full words (length (now (scratch .entry))) slot room ⌝ }
+    ensures { λ r. ⌜ now (scratch .exit) ≡ cleaned full r (now (scratch .entry)) ⌝ }
+{
+    if words < 4096 {
+        return 1;
+    }
+    if scratch.len() < 8192 {
+        return 1;
+    }
+    if room {
+        numbers::wipe(&mut scratch[..8192]);
+        if slot >= 16 {
+            return 2;
+        }
+        return 0;
+    }
+    1
+}
+
+// The answer where the gate refuses.
+fn turned_away(g: u64) -> Answer
+    ensures { λ r. ⌜ toldBy r ≡ plainly (cond (eqb g 1) 1 2) ⌝ }
+{
+    if g == 1 {
+        return plainly(Verdict::Refused(Refusal::Room));
+    }
+    plainly(Verdict::Refused(Refusal::Slot))
+}
+
+// A job for a request, into an empty slot.
+pub fn open(bank: &mut [u64], scratch: &mut [u64], slot: usize, request: Request) -> Answer
+    ensures { λ r. ⌜ Ends (bankCall full (Call.open′ request) slot (now (bank .entry)) (now (scratch .entry))) r (now (bank .exit)) (now (scratch .exit)) [] [] [] ⌝ }
+{
+    let g = gate(bank.len(), scratch, slot, true);
+    if g != 0 {
+        return turned_away(g);
+    }
+    let a = slot * 256;
+    let e = a + 256;
+    calls::open_slot(&mut bank[a..e], request)
+}
+
+// One exchange of the job in a slot.
+pub fn step(bank: &mut [u64], scratch: &mut [u64], slot: usize) -> Answer
+    ensures { λ r. ⌜ Ends (bankCall full Call.step slot (now (bank .entry)) (now (scratch .entry))) r (now (bank .exit)) (now (scratch .exit)) [] [] [] ⌝ }
+{
+    let g = gate(bank.len(), scratch, slot, true);
+    if g != 0 {
+        return turned_away(g);
+    }
+    let a = slot * 256;
+    let e = a + 256;
+    let r = calls::step_slot(&mut bank[a..e], &mut scratch[0..8192]);
+    numbers::wipe(&mut scratch[..8192]);
+    r
+}
+
+// Empties a slot, whatever its words are.
+pub fn clear(bank: &mut [u64], scratch: &mut [u64], slot: usize) -> Answer
+    ensures { λ r. ⌜ Ends (bankCall full Call.clear slot (now (bank .entry)) (now (scratch .entry))) r (now (bank .exit)) (now (scratch .exit)) [] [] [] ⌝ }
+{
+    let g = gate(bank.len(), scratch, slot, true);
+    if g != 0 {
+        return turned_away(g);
+    }
+    let a = slot * 256;
+    let e = a + 256;
+    calls::clear_slot(&mut bank[a..e])
 }

@@ -15,7 +15,8 @@ use Rattle.fields.specs.declared.interpolant.Interpolant.{Interpolant}
 use Rattle.fields.specs.Interpolant.{Interpolation, answered}
 use Rattle.fields.specs.Accept.{acceptOf, acceptFor, opening}
 use Rattle.exchange.specs.declared.job.State.{State}
-use Rattle.exchange.specs.Job.{Held, held, heldOf, openedOf, standingOf, standingBy, agrees, four, jobFor}
+use Rattle.exchange.specs.declared.job.Opened.{Opened}
+use Rattle.exchange.specs.Job.{Held, held, heldOf, standingOf, standingBy, agrees, four, jobFor, Resuming, Opening, Checked}
 
 -- by the outcome of accepting the fields, and whether the state agrees
 abbrev judged : Outcome Interpolation → Bool → Outcome Interpolant
@@ -46,10 +47,22 @@ module _ (j : Held) (v : Verdict) (a : Interpolant) (accepted : verdictOf v a �
   unfolding jobFor
   agreeing e h = rw h (judged-true (acceptOf (j .fields)) (taken-is a accepted e))
 
--- ---- the job that a request opens
-module _ (r : Request) (f : Fields) (e : f ≡ opening r) where
-  pub opened-is : (s : State) → standingOf s ≡ standingBy f → heldOf (record { fields = f; state = s }) ≡ openedOf r
-  opened-is s h = (λ i. held (e i) ((h ∙ ap standingBy e) i))
+-- ---- the job that fields make
+module _ (f : Fields) where
+  pub resumed-is : (s : State) → standingOf s ≡ standingBy f → heldOf (record { fields = f; state = s }) ≡ held f (standingBy f)
+  resumed-is s h = ap (held f) h
 
-  pub opened-accepted : (v : Verdict) (a : Interpolant) → verdictOf v a ≡ acceptFor f → verdictOf v (tt {0}) ≡ bind (acceptOf (opening r)) (λ _. gave tt)
-  opened-accepted v a h = verdict-alone v a h ∙ bind-map (acceptOf f) answered tt ∙ ap (λ (f : Fields). bind (acceptOf f) (λ _. gave tt)) e
+  pub resumed-accepted : (v : Verdict) (a : Interpolant) → verdictOf v a ≡ acceptFor f → verdictOf v (tt {0}) ≡ bind (acceptOf f) (λ _. gave tt)
+  resumed-accepted v a h = verdict-alone v a h ∙ bind-map (acceptOf f) answered tt
+
+-- ---- the job that a request opens
+pub opened-by : (r : Request) (f : Fields) (o : Opened) → f ≡ opening r → Resuming f o → Opening r o
+opened-by r f o e h =
+    record {
+      job = h .job ∙ ap (λ (g : Fields). held g (standingBy g)) e;
+      is = h .is ∙ ap (λ (g : Fields). bind (acceptOf g) (λ _. gave tt)) e;
+    }
+
+-- ---- whether it is one
+pub checked-by : (j : Held) (v : Verdict) (a : Interpolant) → verdictOf v a ≡ bind (jobFor j) (λ i. gave (answered i)) → Checked j v
+checked-by j v a h = verdict-alone v a h ∙ bind-map (jobFor j) answered tt

@@ -6,6 +6,7 @@ use lib.Dec.{leb}
 use lib.ListN.{take}
 use Rattle.numbers.specs.Outcome.{Outcome, refused, gave, bind, unless}
 use Rattle.numbers.specs.Refusals.{refusalNumber, verdictOf}
+use Rattle.numbers.specs.declared.Verdict.{Verdict}
 use Rattle.fields.specs.declared.request.Request.{Request}
 use Rattle.fields.specs.declared.held.Fields.{Fields}
 use Rattle.fields.specs.declared.interpolant.Interpolant.{Interpolant}
@@ -64,7 +65,16 @@ interpolationIn i =
 abbrev pub openedOf : Request → Held
 openedOf r = held (opening r) (standingBy (opening r))
 
+-- The contract of resuming: the job that fields make, running or finished as they say, and whether they are accepted.
+pub record Resuming (f : Fields) (o : Opened) : Type 0 where
+  pub job : heldOf (o .job) ≡ held f (standingBy f)
+  pub is : verdictOf (o .verdict) (tt {0}) ≡ bind (acceptOf f) (λ _. gave tt)
+
 -- The contract of opening: that job, and whether it is accepted: 5 to 9.
 pub record Opening (r : Request) (o : Opened) : Type 0 where
   pub job : heldOf (o .job) ≡ openedOf r
   pub is : verdictOf (o .verdict) (tt {0}) ≡ bind (acceptOf (opening r)) (λ _. gave tt)
+
+-- The contract of a check: taken exactly where it is a job, else 4.
+abbrev pub Checked : Held → Verdict → Type 0
+Checked j v = verdictOf v (tt {0}) ≡ bind (jobFor j) (λ _. gave tt)

@@ -5,7 +5,7 @@ ghost use lib.ListN.{length};
 ghost use Rattle.numbers.specs.Outcome.{bind, gave};
 ghost use Rattle.numbers.specs.Refusals.{verdictOf, refusalNumber};
 ghost use Rattle.fields.specs.Interpolant.{answered};
-ghost use Rattle.exchange.specs.Job.{standingOf, heldOf, agrees, jobFor, standingBy, Opening};
+ghost use Rattle.exchange.specs.Job.{standingOf, heldOf, agrees, jobFor, standingBy, Opening, Resuming, Checked};
 ghost use Rattle.exchange.specs.Step.{Step};
 ghost use Rattle.exchange.specs.Design.{designFor, Designed};
 use crate::design;
@@ -97,11 +97,18 @@ impl Job {
         }
     }
 
-    // The job that a request opens: refusals 5 to 9. With no exchange allowed it is finished.
-    pub fn open(request: Request) -> Opened
-        ensures { λ r. ⌜ Opening request r ⌝ }
+    // Whether it is a job: 4 where it is none.
+    pub fn check(self) -> Verdict
+        ensures { λ r. ⌜ Checked (heldOf self) r ⌝ }
     {
-        let fields = Fields::opening(request);
+        let a = self.loaded();
+        a.verdict
+    }
+
+    // The job that fields make, running or finished as they say: 14, then 5 to 9 where they are not accepted.
+    pub fn resume(fields: Fields) -> Opened
+        ensures { λ r. ⌜ Resuming fields r ⌝ }
+    {
         let a = fields.accept();
         let verdict = a.verdict;
         let state = state_of(fields);
@@ -109,6 +116,14 @@ impl Job {
             job: Job { fields, state },
             verdict,
         }
+    }
+
+    // The job that a request opens: refusals 5 to 9. With no exchange allowed it is finished.
+    pub fn open(request: Request) -> Opened
+        ensures { λ r. ⌜ Opening request r ⌝ }
+    {
+        let fields = Fields::opening(request);
+        Job::resume(fields)
     }
 
     // One exchange. The first 2,482 words are worked in, and zero afterwards.

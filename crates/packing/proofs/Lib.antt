@@ -4,3 +4,4 @@ pub mod Places
 pub mod RoundTrip
 pub mod PlansAlike
 pub mod AcceptedAlike
+pub mod ReadStored

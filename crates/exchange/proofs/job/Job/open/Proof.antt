@@ -1,5 +1,5 @@
 -- `exchange::job::Job::open` meets its contract. Assumes nothing.
-use Rattle.exchange.proofs.JobLaws.{opened-is, opened-accepted}
+use Rattle.exchange.proofs.JobLaws.{opened-by}
 use borrow.Author.Needs.{needs}
 use Rattle.exchange.proofs.job.Job.open.Statement.{statement}
 use Rattle.exchange.proofs.job.Job.open.Tie as tie
@@ -7,20 +7,11 @@ use Rattle.exchange.proofs.job.Job.open.Tie as tie
 opening-requires : tie.Need-opening-requires
 opening-requires c κs = search needs
 
-accept-requires : tie.Need-accept-requires
-accept-requires c κs = search needs
-
-state-of-requires : tie.Need-state-of-requires
-state-of-requires c κs = search needs
+resume-requires : tie.Need-resume-requires
+resume-requires c κs = search needs
 
 returns : tie.Need-returns
-returns c =
-    let made = c .before .before .opening .ensures in
-    let accepted = c .before .accept in
-    record {
-      job = opened-is _ _ made (c .state-of .result) (c .state-of .ensures);
-      is = opened-accepted _ _ made (accepted .result .verdict) (accepted .result .interpolant) (accepted .ensures .is);
-    }
+returns c = opened-by _ _ (c .resume .result) (c .before .opening .ensures) (c .resume .ensures)
 
 pub open-spec : {M : Type 1} → statement M
-open-spec = tie.close (tie.spec opening-requires accept-requires state-of-requires returns)
+open-spec = tie.close (tie.spec opening-requires resume-requires returns)
