@@ -1,16 +1,22 @@
-//! Whole designs: the proved exchange against pm-remez, scipy's remez and liquid's firdespm, which are asked for the same six filters.
-//! Without words, the proved taps are compared with pm-remez's bit for bit, and times and ripples are printed. `rows` names the designs;
-//! NAME WHO COUNT makes that many designs and says nothing; `stack` says how deep the proved calls go.
+//! Whole designs: the proved exchange against pm-remez, a plain reading of document 01, scipy's remez and liquid's firdespm, which are
+//! asked for the same six filters. Without words, the proved taps are compared with pm-remez's and the plain ones bit for bit, and times
+//! and ripples are printed. `rows` names the designs; NAME WHO COUNT makes that many designs and says nothing; `stack` says how deep the
+//! proved calls go.
 
 use std::hint::black_box;
 use std::io::{BufRead, BufReader, Write};
 use std::process::{Child, ChildStdin, ChildStdout, Command, Stdio};
 use std::time::Instant;
 
+use oracle::angles;
 use oracle::design::{self, Request};
 use oracle::plan::{self, Band, Value};
 use pm_remez::Symmetry;
 
+#[path = "plain.rs"]
+mod plain;
+#[path = "plain_design.rs"]
+mod plain_design;
 #[path = "proved.rs"]
 mod proved;
 
@@ -167,10 +173,10 @@ fn microseconds(mut work: impl FnMut()) -> f64 {
 const ROUNDS: usize = 200;
 
 /// The best of many rounds of each in turns, in microseconds: what else the host does only adds.
-fn times(request: &Request, proved: &mut Proved, scipy: &mut Option<Scipy>) -> [f64; 5] {
-    let mut best = [f64::INFINITY; 5];
+fn times(request: &Request, proved: &mut Proved, scipy: &mut Option<Scipy>) -> [f64; 6] {
+    let mut best = [f64::INFINITY; 6];
     for _ in 0..ROUNDS {
-        let mut round = [f64::INFINITY; 5];
+        let mut round = [f64::INFINITY; 6];
         round[0] = microseconds(|| drop(black_box(proved.taps(request))));
         round[1] = microseconds(|| drop(black_box(rust(request))));
         if let Some(scipy) = scipy {
@@ -178,6 +184,7 @@ fn times(request: &Request, proved: &mut Proved, scipy: &mut Option<Scipy>) -> [
             round[3] = scipy.ask(request, 64, 1).0 / 1e3;
         }
         round[4] = microseconds(|| drop(black_box(liquid::taps(request))));
+        round[5] = microseconds(|| drop(black_box(plain_design::taps(request))));
         best.iter_mut().zip(round).for_each(|(b, r)| *b = b.min(r));
     }
     best
@@ -195,23 +202,24 @@ fn shown(x: Option<f64>, digits: usize) -> String {
 fn tables(mut scipy: Option<Scipy>) {
     let mut proved = Proved::new();
     let mut ripples = Vec::new();
-    println!("microseconds a design  exchanges   proved pm-remez  ratio  scipy 16  scipy 64   liquid");
+    println!("microseconds a design  exchanges   proved pm-remez  ratio    plain  ratio  scipy 16  scipy 64   liquid");
     for (name, request) in designs() {
         let taps = proved.taps(&request);
         assert_eq!(bits(&taps), bits(&rust(&request)), "{name}: other taps than pm-remez");
+        assert_eq!(bits(&taps), bits(&plain_design::taps(&request)), "{name}: other taps than the plain ones");
         let mut others = vec![liquid::taps(&request)];
         if let Some(scipy) = &mut scipy {
             others.extend([16, 64].map(|grid| Some(scipy.ask(&request, grid, 1).1)));
         }
         let others: Vec<Option<f64>> = others.iter().map(|taps| taps.as_ref().map(|taps| ripple(&request, taps))).collect();
         ripples.push((name, ripple(&request, &taps), others));
-        let [a, b, narrow, wide, c] = times(&request, &mut proved, &mut scipy);
+        let [a, b, narrow, wide, c, plain] = times(&request, &mut proved, &mut scipy);
         let there = |x: f64| shown(scipy.as_ref().map(|_| x), 0);
         let c = shown(liquid::taps(&request).map(|_| c), 0);
-        let (made, ratio) = (proved.exchanges(), a / b);
-        println!("  {name:20} {made:9} {a:8.0} {b:8.0} {ratio:6.2} {:>9} {:>9} {c:>8}", there(narrow), there(wide));
+        print!("  {name:20} {:9} {a:8.0} {b:8.0} {:6.2} {plain:8.0} {:6.2}", proved.exchanges(), a / b, a / plain);
+        println!(" {:>9} {:>9} {c:>8}", there(narrow), there(wide));
     }
-    println!("proved and pm-remez: the same bits in every tap");
+    println!("proved, pm-remez and plain: the same bits in every tap");
     println!("largest weighted error, 20,000 places        proved    scipy 16    scipy 64      liquid");
     for (name, own, others) in ripples {
         let at = |i: usize| shown(others.get(i).copied().flatten(), 4);
@@ -233,11 +241,12 @@ fn main() {
                 match who {
                     "proved" => drop(black_box(proved.taps(request))),
                     "pm-remez" => drop(black_box(rust(request))),
+                    "plain" => drop(black_box(plain_design::taps(request))),
                     _ => drop(black_box(liquid::taps(request))),
                 }
             }
         }
         [] => tables(Scipy::new(&std::env::var("SCIPY").unwrap_or_default())),
-        _ => panic!("designs [rows | stack | NAME proved|pm-remez|liquid COUNT]"),
+        _ => panic!("designs [rows | stack | NAME proved|pm-remez|plain|liquid COUNT]"),
     }
 }
