@@ -3,7 +3,7 @@
 use Prim.Native.Nat.{ℕ, zero, suc, _+_, _-_, _<_, _≤_}
 use mathlib.Core.Path.{_≡_, refl, sym, _∙_}
 use mathlib.Core.Bool.{Bool, true, false, cond, not, _&&_}
-use mathlib.Core.List.{List, []}
+use mathlib.Core.List.{List, [], map}
 use native.Mathlib.Omega.{arith}
 use borrow.Author.Tests.{leb-true, eqb-true, eqb-false}
 use lib.Dec.{eqb, leb}
@@ -12,9 +12,11 @@ use lib.Seq.{getD-set-same, getD-set-other}
 use lib.Ieee.{Float, ofBits}
 use Rattle.numbers.specs.Floats.{zero64, allFinite}
 use Rattle.numbers.specs.Loops.{until}
-use Rattle.numbers.specs.Outcome.{Outcome, gave, bind, unless}
+use Rattle.numbers.specs.Outcome.{Outcome, refused, gave, bind, unless}
+use Rattle.numbers.specs.declared.Count.{Count}
+use Rattle.numbers.specs.declared.Count.the-variants as count
 use Rattle.numbers.proofs.LoopLaws.{run-keeps, every-at}
-use Rattle.numbers.proofs.Given.{gave-same, unless-given, bind-given}
+use Rattle.numbers.proofs.Given.{gave-same, never-given, unless-given, bind-given}
 use Rattle.numbers.proofs.Order.{and-2}
 use Rattle.colleague.specs.declared.Colleague.{Colleague}
 use Rattle.colleague.specs.declared.balance.Step.{Step}
@@ -23,13 +25,16 @@ use Rattle.colleague.specs.Matrix.{Matrix, put, zeros, entriesFinite}
 use Rattle.colleague.specs.Built.{setIf, rowOf, withoutZeros, builtOf}
 use Rattle.colleague.specs.Balance.{scaleAt, scaledBy, movedBy, scaleOf, rowNorm, columnNorm, stepOf, stepped, Pass, passBy, passFrom, passOf, Balanced, balancedFrom, balancedOf}
 use Rattle.colleague.specs.Answer.{rowRecord, shown, noRows, mostCoefficients, balancedFor, colleagueFor}
+use Rattle.colleague.specs.Lent.{Lent}
 use Rattle.colleague.proofs.BuiltLaws.{zeros-within}
+use Rattle.colleague.proofs.LentLaws.{map-back}
 
 -- what a matrix that is answered is: its rows as row records, with its size and its passes
 pub record Bounded (m : Colleague) : Type 0 where
   pub rows : length (m .rows) ≡ 15
   pub columns : (i : ℕ) → i < 15 → length (getD (m .rows) i (rowRecord []) .entries) ≡ 15
   pub finite : (i : ℕ) → i < 15 → allFinite (getD (m .rows) i (rowRecord []) .entries) ≡ true
+  pub entries : entriesFinite (map (λ r. r .entries) (m .rows)) ≡ true
   pub size : m .size ≤ 15
   pub passes : m .passes ≤ 64
   pub none : m .size ≡ 0 → m .passes ≡ 0
@@ -123,6 +128,7 @@ shown-bounded a s p q f n m g h =
       rows = length-map a rowRecord ∙ q .long;
       columns = λ i l. rw (List·getD-map rowRecord a i []) (q .wide i l);
       finite = λ i l. rw (List·getD-map rowRecord a i []) (every-at (λ i. allFinite (getD a i [])) 15 i f l);
+      entries = rw (← map-back a) f;
       size = n;
       passes = m;
       none = g;
@@ -161,3 +167,18 @@ given-bounded c m e =
     pick n l w h false k e =
         let o = eqb-false n 1 k in
         balanced-bounded c (n - 1) m (omega (arith, o)) (omega arith) e
+
+-- ---- what a count of s rows tells of the lent matrix
+pub record Giving (c : List Float) (s : ℕ) (a : Matrix) : Type 0 where
+  pub matrix : Colleague
+  pub given : gave matrix ≡ colleagueFor c
+  pub sized : s ≡ matrix .size
+  pub rows : a ≡ map (λ r. r .entries) (matrix .rows)
+  pub bounded : Bounded matrix
+
+pub lent-given : {c : List Float} {r : Count} {a : Matrix} {s : ℕ} → Lent (colleagueFor c) r a → r ≡ count.Of s → Giving c s a
+lent-given {c} {r} {a} {s} l e = pick (colleagueFor c) refl l
+  where
+    pick : (o : Outcome Colleague) → o ≡ colleagueFor c → Lent o r a → Giving c s a
+    pick (refused n) f l = absurd (never-given (sym (rw e at (l .is))))
+    pick (gave m) f l = record { matrix = m; given = f; sized = gave-same (rw e at (l .is)); rows = l .out; bounded = given-bounded c m (sym f) }

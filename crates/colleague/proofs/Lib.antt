@@ -1,4 +1,5 @@
 pub mod BuiltLaws
+pub mod LentLaws
 pub mod BalanceLaws
 pub mod AnswerLaws
 pub mod Given

@@ -1,7 +1,9 @@
 ghost use mathlib.Core.Path.{_≡_};
 ghost use Prim.Native.Nat.{_<_, _≤_};
-ghost use lib.ListN.{length};
+ghost use lib.ListN.{length, set};
+ghost use Rattle.colleague.specs.Matrix.{zeros};
 ghost use Rattle.colleague.specs.Built.{withoutZeros, rowOf, builtOf};
+ghost use Rattle.colleague.specs.Lent.{overLeading, Blank};
 
 // How many coefficients are left when the zeros at the end are removed: the leading one is nonzero.
 pub(crate) fn without_zeros(ck: &[f64]) -> usize
@@ -18,33 +20,30 @@ pub(crate) fn without_zeros(ck: &[f64]) -> usize
     0
 }
 
-fn colleague_row(ck: &[f64], s: usize, j: usize) -> [f64; 15]
-    requires { ⌜ (s < length (now ck)) × (s ≤ 15) × (j < s) ⌝ }
-    ensures { λ r. ⌜ r ≡ rowOf (now (ck .entry)) s j ⌝ }
+// Row j of the matrix, where the lent one is still zero; `scale` is the same for every row.
+fn put_row(ck: &[f64], s: usize, j: usize, scale: f64, a: &mut [[f64; 15]; 15])
+    requires { ⌜ (s < length (now ck)) × (s ≤ 15) × (j < s) × (scale ≡ overLeading (now ck) s) × Blank j (now a) ⌝ }
+    ensures { λ _. ⌜ now (a .exit) ≡ set (now (a .entry)) j (rowOf (now (ck .entry)) s j) ⌝ }
 {
-    let mut row = [0.0; 15];
     if j + 1 < s {
-        row[j + 1] = 0.5;
+        a[j][j + 1] = 0.5;
     }
     if 2 <= j {
-        row[j - 1] = 0.5;
+        a[j][j - 1] = 0.5;
     }
-    let scale = -0.5 / ck[s];
     let c = ck[s - 1 - j] * scale;
-    row[0] = if j == 1 { c + 0.5 } else { c };
-    row
+    a[j][0] = if j == 1 { c + 0.5 } else { c };
 }
 
-// The matrix of s rows of the first s + 1 coefficients.
-pub(crate) fn colleague_of(ck: &[f64], s: usize) -> [[f64; 15]; 15]
-    requires { ⌜ (s < length (now ck)) × (s ≤ 15) ⌝ }
-    ensures { λ r. ⌜ r ≡ builtOf (now (ck .entry)) s ⌝ }
+// The matrix of s rows of the first s + 1 coefficients, in one that is all zero.
+pub(crate) fn build_in(ck: &[f64], s: usize, a: &mut [[f64; 15]; 15])
+    requires { ⌜ (s < length (now ck)) × (s ≤ 15) × (now a ≡ zeros) ⌝ }
+    ensures { λ _. ⌜ now (a .exit) ≡ builtOf (now (ck .entry)) s ⌝ }
 {
-    let mut colleague = [[0.0; 15]; 15];
+    let scale = -0.5 / ck[s];
     let mut j: usize = 0;
     while j < s {
-        colleague[j] = colleague_row(ck, s, j);
+        put_row(ck, s, j, scale, a);
         j += 1;
     }
-    colleague
 }

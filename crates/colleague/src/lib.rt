@@ -1,14 +1,15 @@
 // The colleague matrix of a proxy's derivative, balanced (extrema.rs of pm-remez).
 ghost use mathlib.Core.Path.{_≡_};
-ghost use Prim.Native.Nat.{_<_, _≤_};
-ghost use lib.ListN.{length};
 ghost use Rattle.numbers.specs.Refusals.{Answers};
-ghost use Rattle.colleague.specs.Answer.{noRows, refusedBy, balancedFor, colleagueFor};
+ghost use Rattle.colleague.specs.Answer.{noRows, refusedBy, colleagueFor};
+ghost use Rattle.colleague.specs.Lent.{Lent};
 
 mod balance;
 mod built;
+mod lent;
 mod matrix;
 
+use numbers::Count;
 use numbers::Refusal;
 use numbers::Verdict;
 
@@ -48,50 +49,27 @@ fn refused(why: Refusal) -> Answer
     }
 }
 
-fn balanced_from(ck: &[f64], s: usize) -> Answer
-    requires { ⌜ (s < length (now ck)) × (s ≤ 15) ⌝ }
-    ensures { λ r. ⌜ Answers noRows (balancedFor (now (ck .entry)) s) (r .verdict) (r .matrix) ⌝ }
-{
-    let mut colleague = built::colleague_of(ck, s);
-    if !matrix::are_entries_finite(&colleague) {
-        return refused(Refusal::NotFinite);
-    }
-    let passes = balance::balance_matrix(&mut colleague, s);
-    let balance::Passes::Made(made) = passes else {
-        return refused(Refusal::Balancing);
-    };
-    if !matrix::are_entries_finite(&colleague) {
-        return refused(Refusal::NotFinite);
-    }
-    Answer {
-        matrix: matrix::shown(colleague, s, made),
-        verdict: Verdict::Taken,
-    }
-}
-
 // The balanced colleague matrix of the derivative's coefficients, whose eigenvalues are the derivative's roots.
 pub fn colleague_matrix(ck: &[f64]) -> Answer
     ensures { λ r. ⌜ Answers noRows (colleagueFor (now (ck .entry))) (r .verdict) (r .matrix) ⌝ }
 {
-    if ck.len() < 1 {
-        return refused(Refusal::Lists);
-    }
-    if Colleague::COEFFICIENTS < ck.len() {
-        return refused(Refusal::Lists);
-    }
-    if !numbers::all_finite(ck) {
-        return refused(Refusal::NotFinite);
-    }
-    let n = built::without_zeros(ck);
-    if n < 1 {
-        return refused(Refusal::Derivative);
-    }
-    // Here the Rust panics; document 01 gives a matrix of no rows.
-    if n == 1 {
-        return Answer {
-            matrix: matrix::no_rows(),
+    let mut a = [[0.0; 15]; 15];
+    let held = lent::matrix_in(ck, &mut a);
+    match held {
+        lent::Held::Of(size, passes) => Answer {
+            matrix: matrix::shown(a, size, passes),
             verdict: Verdict::Taken,
-        };
+        },
+        lent::Held::Refused(why) => refused(why),
     }
-    balanced_from(ck, n - 1)
+}
+
+// The same matrix in a lent one, all zero beyond its rows and columns, and all zero where there is none; answers how many rows it has.
+pub fn colleague_into(ck: &[f64], a: &mut [[f64; 15]; 15]) -> Count
+    ensures { λ r. ⌜ Lent (colleagueFor (now (ck .entry))) r (now (a .exit)) ⌝ }
+{
+    match lent::matrix_in(ck, a) {
+        lent::Held::Of(size, _) => Count::Of(size),
+        lent::Held::Refused(why) => Count::Refused(why),
+    }
 }
