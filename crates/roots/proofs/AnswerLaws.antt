@@ -5,6 +5,7 @@ use mathlib.Core.Bool.{Bool, true, false}
 use mathlib.Core.List.{List, [], _∷_, _++_, map}
 use native.Mathlib.Omega.{arith}
 use native.Mathlib.Numerals.{add-one}
+use borrow.Author.Tests.{le-leb}
 use lib.Dec.{leb, eqb}
 use lib.ListN.{length, getD, take, drop, length-map}
 use lib.Seq.{drop-cons, length-take-le}
@@ -16,12 +17,14 @@ use Rattle.numbers.specs.declared.Refusal.{Refusal}
 use Rattle.numbers.specs.declared.Count.{Count}
 use Rattle.numbers.specs.declared.Count.the-variants as count
 use Rattle.numbers.specs.Refusals.{refusalNumber, countOf, few, Wrote}
+use Rattle.numbers.proofs.OutcomeLaws.{bind-next}
 use Rattle.numbers.proofs.LoopLaws.{Going, put, fill-start}
 use Rattle.colleague.specs.declared.Colleague.{Colleague}
 use Rattle.colleague.specs.Matrix.{Matrix, entriesFinite}
 use Rattle.roots.specs.declared.brackets.Bracket.{Bracket}
 use Rattle.roots.specs.Brackets.{grid, found, lowOf, lowEnds}
-use Rattle.roots.specs.Answer.{rowsOf, bracketsOf, rootsFor}
+use Rattle.colleague.proofs.Given.{Giving}
+use Rattle.roots.specs.Answer.{rowsOf, bracketsOf, rootsFor, derivativeRoots}
 
 tab-take : {A : Type 0} (l : List A) (d : A) (m i : ℕ) → i + m ≤ length l → tab (λ k. getD l k d) m i ≡ take m (drop i l)
 unfolding tab
@@ -101,3 +104,24 @@ module _ (m : Colleague) (room : ℕ) where
       pub some-roots : entriesFinite a ≡ true → eqb (m .size) 0 ≡ false → lowEnds (bracketsOf a (m .size)) ≡ rootsFor m room
       unfolding rootsFor
       some-roots f z = rw (p, q, ← is, f, z)
+
+-- ---- the same of a derivative's coefficients, whose matrix is s rows in a
+module _ {c : List Float} {s : ℕ} {a : Matrix} (w : Giving c s a) (room : ℕ) where
+  fits : leb (w .matrix .size) 15 ≡ true
+  fits = le-leb (w .matrix .size) 15 (w .bounded .size)
+
+  finite-rows : entriesFinite a ≡ true
+  finite-rows = rw (w .rows) (w .bounded .entries)
+
+  pub short-of : leb s room ≡ false → refused 15 ≡ derivativeRoots c room
+  short-of t = bind-next (λ m. rootsFor m room) (w .given) (too-short (w .matrix) room fits (rw (w .sized) at t))
+
+  pub none-of : leb s room ≡ true → eqb s 0 ≡ true → gave [] ≡ derivativeRoots c room
+  none-of t z =
+      bind-next (λ m. rootsFor m room) (w .given)
+      (no-roots (w .matrix) room fits (rw (w .sized) at t) a (w .rows) finite-rows (rw (w .sized) at z))
+
+  pub some-of : leb s room ≡ true → eqb s 0 ≡ false → lowEnds (bracketsOf a s) ≡ derivativeRoots c room
+  some-of t z =
+      bind-next (λ m. rootsFor m room) (w .given)
+      (rw (w .sized) (some-roots (w .matrix) room fits (rw (w .sized) at t) a (w .rows) finite-rows (rw (w .sized) at z)))

@@ -10,6 +10,7 @@ use Rattle.numbers.specs.Outcome.{Outcome, gave, bind, unless}
 use Rattle.colleague.specs.declared.Row.{Row}
 use Rattle.colleague.specs.declared.Colleague.{Colleague}
 use Rattle.colleague.specs.Matrix.{Matrix, entriesFinite}
+use Rattle.colleague.specs.Answer.{colleagueFor}
 use Rattle.roots.specs.declared.brackets.Bracket.{Bracket}
 use Rattle.roots.specs.Brackets.{grid, found, lowEnds}
 
@@ -30,3 +31,7 @@ rootsFor m room =
     unless (leb (m .size) 15 && leb (m .size) room) 15
     (unless (entriesFinite (rowsOf m)) 9
     (cond (eqb (m .size) 0) (gave []) (lowEnds (bracketsOf (rowsOf m) (m .size)))))
+
+-- the roots of a derivative, of its coefficients: 15, 9, 10 and 11 for its matrix, then 15 and 12
+abbrev pub derivativeRoots : List Float → ℕ → Outcome (List Float)
+derivativeRoots c room = bind (colleagueFor c) (λ m. rootsFor m room)

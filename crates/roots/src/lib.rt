@@ -6,7 +6,7 @@ ghost use lib.ListN.{length, take, drop};
 ghost use Rattle.numbers.specs.Refusals.{Wrote};
 ghost use Rattle.colleague.specs.Matrix.{entriesFinite};
 ghost use Rattle.roots.specs.Brackets.{lowEnds};
-ghost use Rattle.roots.specs.Answer.{entriesOf, bracketsOf, rootsFor};
+ghost use Rattle.roots.specs.Answer.{entriesOf, bracketsOf, rootsFor, derivativeRoots};
 
 mod brackets;
 mod residual;
@@ -97,4 +97,23 @@ pub fn find_roots(m: Colleague, out: &mut [f64]) -> Count
         return Count::Of(0);
     }
     roots_of(&a, s, out)
+}
+
+// The roots of the derivative whose coefficients are given: the same as of its colleague matrix, which is made here and lent.
+pub fn derivative_roots(ck: &[f64], out: &mut [f64]) -> Count
+    ensures { λ r. ⌜ Wrote (derivativeRoots (now (ck .entry)) (length (now (out .entry)))) r (now (out .entry)) (now (out .exit)) ⌝ }
+{
+    let mut a = [[0.0; 15]; 15];
+    match colleague::colleague_into(ck, &mut a) {
+        Count::Of(s) => {
+            if out.len() < s {
+                return Count::Refused(Refusal::Lists);
+            }
+            if s == 0 {
+                return Count::Of(0);
+            }
+            roots_of(&a, s, out)
+        }
+        Count::Refused(why) => Count::Refused(why),
+    }
 }
