@@ -4,6 +4,7 @@ pub mod Isolation
 pub mod Loading
 pub mod Refusals
 pub mod Memory
+pub mod Numbers
 pub mod LoadedAgain
 pub mod Settled
 pub mod Unique

@@ -4,6 +4,7 @@ pub mod BandLaws
 pub mod JobLaws
 pub mod TapLaws
 pub mod DesignLaws
+pub mod DesignRefused
 pub mod StepLaws
 pub mod StepFacts
 pub mod Unique
