@@ -7,6 +7,7 @@ pub mod Memory
 pub mod Numbers
 pub mod LoadedAgain
 pub mod Settled
+pub mod SavedRestored
 pub mod Unique
 pub mod WordLaws
 pub mod SlotLaws

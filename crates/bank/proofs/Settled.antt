@@ -75,7 +75,7 @@ saving-whole ws out (gave b) s = s
 -- ---- a step
 module _ (ws : List ℕ) (wide : 139 ≤ length ws) (j : Held) (loaded : loadOf ws ≡ holds j) where
   -- the fields of a loaded job are those that its words give again
-  fields-again : fieldsOf (wordsOf (j .fields)) ≡ j .fields
+  pub fields-again : fieldsOf (wordsOf (j .fields)) ≡ j .fields
   unfolding slotWords
   fields-again =
       let k = holding ws j loaded in
