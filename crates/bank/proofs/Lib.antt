@@ -8,6 +8,7 @@ pub mod Numbers
 pub mod LoadedAgain
 pub mod Settled
 pub mod SavedRestored
+pub mod RestoredFirst
 pub mod Unique
 pub mod WordLaws
 pub mod SlotLaws

@@ -8,3 +8,4 @@ pub mod RoundTrip
 pub mod Spans
 pub mod SavedBytes
 pub mod SavedAgain
+pub mod Unmade
