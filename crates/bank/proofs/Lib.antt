@@ -7,6 +7,7 @@ pub mod Memory
 pub mod Numbers
 pub mod LoadedAgain
 pub mod Settled
+pub mod RunSettled
 pub mod SavedRestored
 pub mod RestoredFirst
 pub mod Unique
