@@ -1,5 +1,5 @@
 -- What each call gives on a slot, by what its words hold before a job has judged itself. Assumes nothing.
-use Prim.Native.Nat.{ℕ, _≤_}
+use Prim.Native.Nat.{ℕ}
 use mathlib.Core.Path.{_≡_, refl, sym, ap, _∙_}
 use mathlib.Core.Bool.{Bool, true, false, cond}
 use mathlib.Core.List.{List, []}
@@ -8,19 +8,21 @@ use Rattle.numbers.specs.declared.Refusal.{Refusal}
 use Rattle.numbers.specs.declared.Verdict.{Verdict}
 use Rattle.numbers.specs.declared.Verdict.the-variants as verdict
 use Rattle.numbers.specs.Outcome.{Outcome, refused, gave, bind}
-use Rattle.numbers.specs.Refusals.{refusalNumber, verdictOf}
+use Rattle.numbers.specs.Refusals.{refusalNumber, verdictOf, Answers}
 use Rattle.numbers.proofs.Given.{never-given}
 use Rattle.fields.specs.declared.request.Request.{Request}
+use Rattle.fields.specs.declared.held.Fields.{Fields}
 use Rattle.fields.specs.Accept.{acceptOf, opening}
 use Rattle.exchange.specs.declared.job.Opened.{Opened}
 use Rattle.exchange.specs.declared.step.Stepped.{Stepped}
-use Rattle.exchange.specs.Job.{Held, heldOf, jobFor, openedOf, Opening, Checked}
+use Rattle.exchange.specs.Job.{Held, held, heldOf, standingBy, jobFor, openedOf, Resuming, Opening, Checked}
+use Rattle.image.specs.Image.{imageFor, blank}
 use Rattle.exchange.specs.Step.{Next, stepOf, readyFor, nextOf}
 use Rattle.bank.specs.declared.Answer.{Answer}
 use Rattle.bank.specs.Sizes.{Sizes, full}
 use Rattle.bank.specs.Slot.{slotWords, isGiven, Loaded, empty, broken, holds}
-use Rattle.bank.specs.Calls.{Call, toldBy, plainly, numberOf, gives, tapsOf, freqsOf, bytesOf, openFor, placing, answered, stepHeld, onLoaded, onSlot, Settled}
-use Rattle.bank.specs.Content.{packedOf, judged, putNumber, putWords, Placed}
+use Rattle.bank.specs.Calls.{Call, toldBy, plainly, numberOf, gives, tapsOf, freqsOf, bytesOf, openFor, restored, restoreFor, placing, answered, stepHeld, onLoaded, onSlot, Settled}
+use Rattle.bank.specs.Content.{packedOf, judged, Placed}
 use Rattle.bank.proofs.Judging.{judged-load, no-job-4, packed-words}
 
 pub on-content : (σ : Sizes) (call : Call) (ws : List ℕ) (l : Loaded) → l ≡ packedOf ws → onSlot σ call ws ≡ onLoaded σ call (judged l) ws
@@ -31,6 +33,11 @@ on-content σ call ws l e = ap (λ (k : Loaded). onLoaded σ call k ws) (judged-
 pub settled-plain : (call : Call) (ws ws' : List ℕ) (n : ℕ) (r : Answer) → onSlot full call ws ≡ gives call n ws' → toldBy r ≡ plainly n
     → Settled (onSlot full call ws) r ws' (tapsOf call) (freqsOf call) (bytesOf call)
 settled-plain call ws ws' n r e h = rw e (record { told = h; slot = refl; taps = refl; freqs = refl; bytes = refl })
+
+-- a call that only answers, by what the words hold
+pub settled-content : (call : Call) (ws : List ℕ) (a : Answer) (l : Loaded) (n : ℕ) → l ≡ packedOf ws → onLoaded full call (judged l) ws ≡ gives call n ws → toldBy a ≡ plainly n
+    → Settled (onSlot full call ws) a ws (tapsOf call) (freqsOf call) (bytesOf call)
+settled-content call ws a l n e o h = settled-plain call ws ws n a (on-content full call ws l e ∙ o) h
 
 -- ---- clear
 pub settled-clear : (ws ws' : List ℕ) (r : Answer) → ws' ≡ replicate (length ws) 0 → toldBy r ≡ plainly 0 → Settled (onSlot full Call.clear ws) r ws' [] [] []
@@ -59,39 +66,62 @@ placed-taken v j r ws ws' e h w = rw e (record { told = h; slot = w })
 pub placed-refused : (v : Verdict) (j : Held) (r : Answer) (ws : List ℕ) (q : Refusal) → v ≡ verdict.Refused q → toldBy r ≡ plainly (refusalNumber q) → Placed (verdictOf v j) r ws ws
 placed-refused v j r ws q e h = rw e (record { told = h; slot = refl })
 
+-- ---- a call that asks for an empty slot: open and restore
+pub record Fresh (call : Call) : Type 0 where
+  pub broken-4 : (ws : List ℕ) → onLoaded full call broken ws ≡ gives call 4 ws
+  pub holds-3 : (j : Held) (ws : List ℕ) → onLoaded full call (holds j) ws ≡ gives call 3 ws
+
+occupied-by : (call : Call) (j : Held) (ws : List ℕ) (g : Bool) → Fresh call → onLoaded full call (cond g (holds j) broken) ws ≡ gives call (cond g 3 4) ws
+occupied-by call j ws true h = h .holds-3 j ws
+occupied-by call j ws false h = h .broken-4 ws
+
+resumed-in : (v : Verdict) (j h : Held) {A : Type 0} (a : Outcome A) → verdictOf v (tt {0}) ≡ bind a (λ _. gave tt) → j ≡ h → verdictOf v j ≡ bind a (λ _. gave h)
+resumed-in verdict.Taken j h (refused n) e k = absurd (never-given (sym e))
+resumed-in verdict.Taken j h (gave a) e k = ap (λ (i : Held). gave i) k
+resumed-in (verdict.Refused q) j h (refused n) e k = let m : refusalNumber q ≡ n = cc in ap (λ (i : ℕ). refused i) m
+resumed-in (verdict.Refused q) j h (gave a) e k = absurd (never-given e)
+
+placed-by : (call : Call) (o : Outcome Held) (a : Answer) (ws ws' : List ℕ) → Placed o a ws ws'
+    → Settled (placing call ws o) a ws' (tapsOf call) (freqsOf call) (bytesOf call)
+placed-by call (refused n) a ws ws' p = record { told = p .told; slot = p .slot; taps = refl; freqs = refl; bytes = refl }
+placed-by call (gave j) a ws ws' p = record { told = p .told; slot = p .slot; taps = refl; freqs = refl; bytes = refl }
+
+module _ (call : Call) (fresh : Fresh call) (ws : List ℕ) (a : Answer) where
+  pub fresh-broken : broken ≡ packedOf ws → toldBy a ≡ plainly 4 → Settled (onSlot full call ws) a ws (tapsOf call) (freqsOf call) (bytesOf call)
+  fresh-broken e h = settled-content call ws a broken 4 e (fresh .broken-4 ws) h
+
+  pub fresh-holds : (j : Held) → holds j ≡ packedOf ws → toldBy a ≡ plainly (cond (isGiven (jobFor j)) 3 4)
+      → Settled (onSlot full call ws) a ws (tapsOf call) (freqsOf call) (bytesOf call)
+  fresh-holds j e h = settled-content call ws a (holds j) (cond (isGiven (jobFor j)) 3 4) e (occupied-by call j ws (isGiven (jobFor j)) fresh) h
+
 -- ---- open
-occupied-open : (r : Request) (j : Held) (ws : List ℕ) (g : Bool) → onLoaded full (Call.open′ r) (cond g (holds j) broken) ws ≡ gives (Call.open′ r) (cond g 3 4) ws
-occupied-open r j ws true = refl
-occupied-open r j ws false = refl
+pub fresh-open : (r : Request) → Fresh (Call.open′ r)
+fresh-open r = record { broken-4 = λ ws. refl; holds-3 = λ j ws. refl }
 
-opened-in : (v : Verdict) (o : Opened) (r : Request) {A : Type 0} (a : Outcome A) → verdictOf v (tt {0}) ≡ bind a (λ _. gave tt) → heldOf (o .job) ≡ openedOf r
-    → verdictOf v (heldOf (o .job)) ≡ bind a (λ _. gave (openedOf r))
-opened-in verdict.Taken o r (refused n) e h = absurd (never-given (sym e))
-opened-in verdict.Taken o r (gave a) e h = ap (λ (j : Held). gave j) h
-opened-in (verdict.Refused q) o r (refused n) e h = let k : refusalNumber q ≡ n = cc in ap (λ (m : ℕ). refused m) k
-opened-in (verdict.Refused q) o r (gave a) e h = absurd (never-given e)
+pub open-empty : (r : Request) (ws ws' : List ℕ) (a : Answer) (o : Opened) → empty ≡ packedOf ws → Opening r o → Placed (verdictOf (o .verdict) (heldOf (o .job))) a ws ws'
+    → Settled (onSlot full (Call.open′ r) ws) a ws' [] [] []
+open-empty r ws ws' a o e h p =
+    let k : Placed (openFor r) a ws ws' = rw (resumed-in (o .verdict) (heldOf (o .job)) (openedOf r) (acceptOf (opening r)) (h .is) (h .job)) at p in
+    rw (on-content full (Call.open′ r) ws empty e) (placed-by (Call.open′ r) (openFor r) a ws ws' k)
 
-pub opened-for : (r : Request) (o : Opened) → Opening r o → verdictOf (o .verdict) (heldOf (o .job)) ≡ openFor r
-opened-for r o h = opened-in (o .verdict) o r (acceptOf (opening r)) (h .is) (h .job)
+-- ---- restore
+pub fresh-restore : (s : List ℕ) → Fresh (Call.restore s)
+fresh-restore s = record { broken-4 = λ ws. refl; holds-3 = λ j ws. refl }
 
-placed-open : (r : Request) (o : Outcome Held) (a : Answer) (ws ws' : List ℕ) → Placed o a ws ws' → Settled (placing (Call.open′ r) ws o) a ws' [] [] []
-placed-open r (refused n) a ws ws' p = record { told = p .told; slot = p .slot; taps = refl; freqs = refl; bytes = refl }
-placed-open r (gave j) a ws ws' p = record { told = p .told; slot = p .slot; taps = refl; freqs = refl; bytes = refl }
+module _ (s ws : List ℕ) (a : Answer) (f : Fields) (v : Verdict) (d : Answers blank (imageFor s) v f) where
+  pub restored-taken : (ws' : List ℕ) (o : Opened) → v ≡ verdict.Taken → Resuming f o → Placed (verdictOf (o .verdict) (heldOf (o .job))) a ws ws' → Placed (restoreFor s) a ws ws'
+  restored-taken ws' o t h p =
+      let g : gave f ≡ imageFor s = ap (λ (x : Verdict). verdictOf x f) (sym t) ∙ d .is in
+      let k : Placed (restored f) a ws ws' = rw (resumed-in (o .verdict) (heldOf (o .job)) (held f (standingBy f)) (acceptOf f) (h .is) (h .job)) at p in
+      rw (← g) k
 
-module _ (r : Request) (ws : List ℕ) (a : Answer) where
-  pub open-empty : (ws' : List ℕ) (o : Opened) → empty ≡ packedOf ws → Opening r o → Placed (verdictOf (o .verdict) (heldOf (o .job))) a ws ws'
-      → Settled (onSlot full (Call.open′ r) ws) a ws' [] [] []
-  open-empty ws' o e h p =
-      let k : Placed (openFor r) a ws ws' = rw (opened-for r o h) at p in
-      rw (on-content full (Call.open′ r) ws empty e) (placed-open r (openFor r) a ws ws' k)
+  pub restored-refused : (q : Refusal) → v ≡ verdict.Refused q → toldBy a ≡ plainly (refusalNumber q) → Placed (restoreFor s) a ws ws
+  restored-refused q t h =
+      let g : refused (refusalNumber q) ≡ imageFor s = ap (λ (x : Verdict). verdictOf x f) (sym t) ∙ d .is in
+      rw (← g) (record { told = h; slot = refl })
 
-  pub open-broken : broken ≡ packedOf ws → toldBy a ≡ plainly 4 → Settled (onSlot full (Call.open′ r) ws) a ws [] [] []
-  open-broken e h = settled-plain (Call.open′ r) ws ws 4 a (on-content full (Call.open′ r) ws broken e) h
-
-  pub open-holds : (j : Held) → holds j ≡ packedOf ws → toldBy a ≡ plainly (cond (isGiven (jobFor j)) 3 4) → Settled (onSlot full (Call.open′ r) ws) a ws [] [] []
-  open-holds j e h =
-      settled-plain (Call.open′ r) ws ws (cond (isGiven (jobFor j)) 3 4) a
-      (on-content full (Call.open′ r) ws (holds j) e ∙ occupied-open r j ws (isGiven (jobFor j))) h
+pub restore-empty : (s ws ws' : List ℕ) (a : Answer) → empty ≡ packedOf ws → Placed (restoreFor s) a ws ws' → Settled (onSlot full (Call.restore s) ws) a ws' [] [] []
+restore-empty s ws ws' a e p = rw (on-content full (Call.restore s) ws empty e) (placed-by (Call.restore s) (restoreFor s) a ws ws' p)
 
 -- ---- step
 -- where it is no job, the step itself gives 4 and leaves the words
@@ -108,12 +138,6 @@ answered-by verdict.Taken o e = ap answered e
 answered-by (verdict.Refused q) o e = ap answered e
 
 module _ (ws : List ℕ) (a : Answer) where
-  pub step-empty : empty ≡ packedOf ws → toldBy a ≡ plainly 3 → Settled (onSlot full Call.step ws) a ws [] [] []
-  step-empty e h = settled-plain Call.step ws ws 3 a (on-content full Call.step ws empty e) h
-
-  pub step-broken : broken ≡ packedOf ws → toldBy a ≡ plainly 4 → Settled (onSlot full Call.step ws) a ws [] [] []
-  step-broken e h = settled-plain Call.step ws ws 4 a (on-content full Call.step ws broken e) h
-
   pub step-holds : (j : Held) (ws' : List ℕ) (t : Stepped) → holds j ≡ packedOf ws → nextOf t ≡ stepOf j 8192
       → toldBy a ≡ plainly (numberOf (t .verdict)) → ws' ≡ slotWords (length ws) (heldOf (t .job)) → Settled (onSlot full Call.step ws) a ws' [] [] []
   step-holds j ws' t e n h w =

@@ -1,12 +1,12 @@
 -- How a call on a bank ends: refused at its gate, or with its slot's words put back. Assumes nothing.
 use Prim.Native.Nat.{ℕ, zero, suc, _+_, _*_, _-_, _≤_}
-use mathlib.Core.Path.{_≡_, refl, sym, ap, _∙_, subst}
+use mathlib.Core.Path.{_≡_, refl, sym, ap, _∙_}
 use mathlib.Core.Bool.{Bool, true, false, cond}
-use mathlib.Core.List.{List, [], _++_}
+use mathlib.Core.List.{List, _++_}
 use native.Mathlib.Omega.{arith}
 use lib.Dec.{eqb, ltb, leb}
 use lib.Ieee.{Float}
-use lib.ListN.{length, take, drop, replicate, length-replicate, take-append-drop}
+use lib.ListN.{length, take, drop, replicate, length-replicate}
 use lib.Seq.{drop-at}
 use borrow.Rule.Slice.PartMut.{putMid}
 use Rattle.bank.specs.declared.Answer.{Answer}

@@ -2,31 +2,21 @@
 use Prim.Native.Nat.{ℕ}
 use mathlib.Core.Path.{_≡_, refl, sym, ap, _∙_}
 use mathlib.Core.Bool.{Bool, true, false, _&&_, not, cond, true≢false}
-use mathlib.Core.List.{List, [], _∷_}
+use mathlib.Core.List.{List}
 use native.Mathlib.Omega.{arith}
-use borrow.Author.Tests.{eqb-true}
 use lib.Dec.{eqb, leb}
 use lib.ListN.{length, getD, drop}
 use Rattle.numbers.specs.Outcome.{Outcome, refused, gave, bind, unless}
-use Rattle.numbers.proofs.Order.{and-1, and-2}
+use Rattle.numbers.proofs.Order.{and-2}
 use Rattle.packing.specs.Packing.{fieldsOf}
 use Rattle.fields.specs.declared.held.Fields.{Fields}
 use Rattle.fields.specs.Interpolant.{Interpolation}
 use Rattle.fields.specs.Accept.{acceptOf, finished}
-use Rattle.exchange.specs.Job.{Standing, running, done, failed, Held, held, agrees, four, jobFor}
+use Rattle.exchange.specs.Job.{running, done, failed, Held, held, agrees, four, jobFor}
 use Rattle.bank.specs.Sizes.{allZero, same}
-use Rattle.bank.specs.Slot.{stateWord, failureWord, slotWords, standingIn, heldIn, isGiven, isJob, Loaded, empty, broken, holds, loadOf}
-use Rattle.bank.specs.Content.{named, standingNear, nearIn, packedOf, judged}
-
-pub same-is : (xs ys : List ℕ) → same xs ys ≡ true → xs ≡ ys
-unfolding same
-same-is [] [] e = refl
-same-is [] (y ∷ ys) e = absurd (true≢false (sym e))
-same-is (x ∷ xs) [] e = absurd (true≢false (sym e))
-same-is (x ∷ xs) (y ∷ ys) e =
-    let h : x ≡ y = eqb-true x y (and-1 (eqb x y) (same xs ys) e) in
-    let t : xs ≡ ys = same-is xs ys (and-2 (eqb x y) (same xs ys) e) in
-    rw (h, t)
+use Rattle.bank.specs.Slot.{failureWord, slotWords, heldIn, isGiven, isJob, Loaded, empty, broken, holds, loadOf}
+use Rattle.bank.specs.Content.{named, nearIn, packedOf, judged}
+use Rattle.bank.proofs.Loading.{same-is}
 
 -- ---- a job whose fields are accepted and whose state agrees; else 4
 pub given-agrees : (j : Held) → isGiven (jobFor j) ≡ true → agrees (j .fields) (j .standing) ≡ true

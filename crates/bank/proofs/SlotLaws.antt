@@ -1,23 +1,21 @@
 -- A slot's words as they are laid and as they are read, and that a job judges itself: what the words hold is a job exactly where loading
 -- them gives one. Assumes nothing.
-use Prim.Native.Nat.{ℕ, zero, suc, _+_, _-_, _≤_, _<_}
-use mathlib.Core.Path.{_≡_, refl, sym, ap, _∙_}
-use mathlib.Core.Bool.{Bool, true, false, _&&_, not, cond}
-use mathlib.Core.List.{List, [], _∷_, _++_}
+use Prim.Native.Nat.{ℕ, _-_}
+use mathlib.Core.Path.{_≡_, sym, ap, _∙_}
+use mathlib.Core.Bool.{true, false}
+use mathlib.Core.List.{List}
 use native.Mathlib.Omega.{arith}
-use lib.Dec.{eqb, leb}
 use lib.ListN.{length, getD, take, drop, set, replicate, length-drop}
 use lib.Seq.{take-all}
 use borrow.Rule.Slice.PartMut.{putMid}
 use Rattle.packing.specs.Packing.{wordsOf, fieldsOf}
 use Rattle.fields.specs.declared.held.Fields.{Fields}
 use Rattle.exchange.specs.declared.job.State.{State}
-use Rattle.exchange.specs.declared.job.Job.{Job}
-use Rattle.exchange.specs.Job.{Standing, running, done, failed, Held, held, heldOf, standingOf, jobFor}
+use Rattle.exchange.specs.Job.{Held, held, heldOf, standingOf}
 use Rattle.bank.specs.declared.slot.Kind.the-variants as kind
 use Rattle.bank.specs.declared.slot.Content.{Content}
 use Rattle.bank.specs.Sizes.{allZero, same}
-use Rattle.bank.specs.Slot.{stateWord, failureWord, slotWords, Loaded, empty, broken, holds}
+use Rattle.bank.specs.Slot.{stateWord, failureWord, slotWords, empty, broken, holds}
 use Rattle.bank.specs.Content.{standingNear, nearIn, packedOf, contentBy, contentOf}
 
 -- ---- a job laid into words that are zero

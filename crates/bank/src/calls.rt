@@ -6,7 +6,7 @@ ghost use Rattle.numbers.specs.Refusals.{verdictOf};
 ghost use Rattle.exchange.specs.Job.{heldOf, jobFor};
 ghost use Rattle.bank.specs.Sizes.{full};
 ghost use Rattle.bank.specs.Slot.{isGiven};
-ghost use Rattle.bank.specs.Calls.{Call, toldBy, plainly, onSlot, Settled};
+ghost use Rattle.bank.specs.Calls.{Call, toldBy, plainly, restoreFor, onSlot, Settled};
 ghost use Rattle.bank.specs.Content.{Placed};
 use crate::Answer;
 use crate::plainly;
@@ -40,6 +40,20 @@ fn place(s: &mut [u64], opened: Opened) -> Answer
             slot::store(s, job);
             plainly(Verdict::Taken)
         }
+        Verdict::Refused(why) => plainly(Verdict::Refused(why)),
+    }
+}
+
+// The job of an image into an empty slot, where its bytes and then its fields are accepted.
+fn place_image(s: &mut [u64], image: &[u8]) -> Answer
+    requires { ⌜ length (now s) ≡ 256 ⌝ }
+    ensures { λ r. ⌜ Placed (restoreFor (now (image .entry))) r (now (s .entry)) (now (s .exit)) ⌝ }
+{
+    let decoded = image::decode(image);
+    let fields = decoded.fields;
+    let verdict = decoded.verdict;
+    match verdict {
+        Verdict::Taken => place(s, Job::resume(fields)),
         Verdict::Refused(why) => plainly(Verdict::Refused(why)),
     }
 }
@@ -82,5 +96,19 @@ pub(crate) fn step_slot(s: &mut [u64], scratch: &mut [u64]) -> Answer
             slot::store(s, next);
             plainly(verdict)
         }
+    }
+}
+
+pub(crate) fn restore_slot(s: &mut [u64], image: &[u8]) -> Answer
+    requires { ⌜ length (now s) ≡ 256 ⌝ }
+    ensures { λ r. ⌜ Settled (onSlot full (Call.restore (now (image .entry))) (now (s .entry))) r (now (s .exit)) [] [] [] ⌝ }
+{
+    let content = slot::load(&s[..]);
+    let kind = content.kind;
+    let job = content.job;
+    match kind {
+        Kind::Empty => place_image(s, image),
+        Kind::Broken => plainly(Verdict::Refused(Refusal::Words)),
+        Kind::Holds => occupied(job),
     }
 }

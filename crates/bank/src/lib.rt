@@ -97,6 +97,19 @@ pub fn step(bank: &mut [u64], scratch: &mut [u64], slot: usize) -> Answer
     r
 }
 
+// The job of an image, into an empty slot.
+pub fn restore(bank: &mut [u64], scratch: &mut [u64], slot: usize, image: &[u8]) -> Answer
+    ensures { λ r. ⌜ Ends (bankCall full (Call.restore (now (image .entry))) slot (now (bank .entry)) (now (scratch .entry))) r (now (bank .exit)) (now (scratch .exit)) [] [] [] ⌝ }
+{
+    let g = gate(bank.len(), scratch, slot, true);
+    if g != 0 {
+        return turned_away(g);
+    }
+    let a = slot * 256;
+    let e = a + 256;
+    calls::restore_slot(&mut bank[a..e], image)
+}
+
 // Empties a slot, whatever its words are.
 pub fn clear(bank: &mut [u64], scratch: &mut [u64], slot: usize) -> Answer
     ensures { λ r. ⌜ Ends (bankCall full Call.clear slot (now (bank .entry)) (now (scratch .entry))) r (now (bank .exit)) (now (scratch .exit)) [] [] [] ⌝ }

@@ -1,5 +1,4 @@
 -- `bank::turned_away` meets its contract. Assumes nothing.
-use mathlib.Core.Path.{_≡_, refl, sym, ap}
 use borrow.Author.Tests.{eq-eqb, ne-eqb}
 use borrow.Author.Needs.{needs}
 use Rattle.bank.proofs.turned_away.Statement.{statement}

@@ -1,5 +1,5 @@
 -- `bank::calls::open_slot` meets its contract. Assumes nothing.
-use Rattle.bank.proofs.CallLaws.{open-empty, open-broken, open-holds}
+use Rattle.bank.proofs.CallLaws.{fresh-open, fresh-broken, fresh-holds, open-empty}
 use Rattle.bank.proofs.SlotLaws.{is-empty, is-broken, is-holding}
 use borrow.Author.Needs.{needs}
 use Rattle.bank.proofs.calls.open_slot.Statement.{statement}
@@ -41,13 +41,13 @@ same-length-2 : tie.Need-same-length-2
 same-length-2 c = search needs
 
 returns-2 : tie.Need-returns-2
-returns-2 c = open-broken _ _ _ (is-broken (c .before .before .before .before .load .result) _ (c .before .before .before .before .load .ensures) (c .before .enum-told2 .given .1)) (c .plainly .ensures)
+returns-2 c = fresh-broken _ (fresh-open _) _ _ (is-broken (c .before .before .before .before .load .result) _ (c .before .before .before .before .load .ensures) (c .before .enum-told2 .given .1)) (c .plainly .ensures)
 
 same-length-3 : tie.Need-same-length-3
 same-length-3 c = search needs
 
 returns-3 : tie.Need-returns-3
-returns-3 c = open-holds _ _ _ _ (is-holding (c .before .before .before .before .load .result) _ (c .before .before .before .before .load .ensures) (c .before .enum-told3 .given .1)) (c .occupied .ensures)
+returns-3 c = fresh-holds _ (fresh-open _) _ _ _ (is-holding (c .before .before .before .before .load .result) _ (c .before .before .before .before .load .ensures) (c .before .enum-told3 .given .1)) (c .occupied .ensures)
 
 pub open-slot-spec : {M : Type 1} → statement M
 open-slot-spec =

@@ -1,9 +1,10 @@
 -- `bank::calls::step_slot` meets its contract. Assumes nothing.
-use mathlib.Core.Path.{_≡_, ap, _∙_}
-use Prim.Native.Nat.{ℕ}
+use mathlib.Core.Path.{refl, ap, _∙_}
 use Rattle.exchange.specs.Step.{stepOf}
 use Rattle.exchange.specs.Job.{heldOf}
-use Rattle.bank.proofs.CallLaws.{step-empty, step-broken, step-holds}
+use Rattle.bank.specs.Slot.{empty, broken}
+use Rattle.bank.specs.Calls.{Call}
+use Rattle.bank.proofs.CallLaws.{settled-content, step-holds}
 use Rattle.bank.proofs.SlotLaws.{is-empty, is-broken, is-holding}
 use borrow.Author.Needs.{needs}
 use Rattle.bank.proofs.calls.step_slot.Statement.{statement}
@@ -40,13 +41,13 @@ same-length : tie.Need-same-length
 same-length c = search needs
 
 returns : tie.Need-returns
-returns c = step-empty _ _ (is-empty (c .before .before .before .before .load .result) _ (c .before .before .before .before .load .ensures) (c .before .enum-told .given .1)) (c .plainly .ensures)
+returns c = settled-content Call.step _ _ empty 3 (is-empty (c .before .before .before .before .load .result) _ (c .before .before .before .before .load .ensures) (c .before .enum-told .given .1)) refl (c .plainly .ensures)
 
 same-length-2 : tie.Need-same-length-2
 same-length-2 c = search needs
 
 returns-2 : tie.Need-returns-2
-returns-2 c = step-broken _ _ (is-broken (c .before .before .before .before .load .result) _ (c .before .before .before .before .load .ensures) (c .before .enum-told2 .given .1)) (c .plainly2 .ensures)
+returns-2 c = settled-content Call.step _ _ broken 4 (is-broken (c .before .before .before .before .load .result) _ (c .before .before .before .before .load .ensures) (c .before .enum-told2 .given .1)) refl (c .plainly2 .ensures)
 
 same-length-3 : tie.Need-same-length-3
 same-length-3 c = search needs

@@ -1,8 +1,7 @@
 -- `bank::slot::refusal_of` meets its contract. Assumes nothing.
-use mathlib.Core.Path.{_≡_, sym, ap}
+use mathlib.Core.Path.{sym, ap}
 use Rattle.bank.specs.Content.{named}
 use Rattle.bank.proofs.WordLaws.{not-named}
-use borrow.Author.Needs.{needs}
 use Rattle.bank.proofs.slot.refusal_of.Statement.{statement}
 use Rattle.bank.proofs.slot.refusal_of.Tie as tie
 

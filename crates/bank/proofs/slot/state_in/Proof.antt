@@ -1,5 +1,5 @@
 -- `bank::slot::state_in` meets its contract. Assumes nothing.
-use mathlib.Core.Path.{_≡_, refl, sym, ap}
+use mathlib.Core.Path.{ap}
 use borrow.Author.Tests.{eq-eqb, ne-eqb}
 use Rattle.exchange.specs.Job.{failed}
 use borrow.Author.Needs.{needs}

@@ -1,6 +1,6 @@
 -- `bank::slot::store` meets its contract. Assumes nothing.
 use Prim.Native.Nat.{ℕ}
-use mathlib.Core.Path.{_≡_, sym, ap, _∙_}
+use mathlib.Core.Path.{sym, ap, _∙_}
 use Rattle.exchange.specs.Job.{heldOf}
 use Rattle.bank.specs.Slot.{slotWords}
 use borrow.Author.Needs.{needs}
