@@ -1,4 +1,4 @@
--- What each call gives on a slot, by what its words hold before a job has judged itself. Assumes nothing.
+-- What clear, open, restore and step give on a slot, by what its words hold before a job has judged itself. Assumes nothing.
 use Prim.Native.Nat.{ℕ}
 use mathlib.Core.Path.{_≡_, refl, sym, ap, _∙_}
 use mathlib.Core.Bool.{Bool, true, false, cond}
@@ -133,19 +133,18 @@ step-held : (j : Held) (ws : List ℕ) (g : Bool) → isGiven (jobFor j) ≡ g �
 step-held j ws true q e = refl
 step-held j ws false q e = step-no-job j ws (no-job-4 j q) e
 
-answered-by : (v : Verdict) (o : Outcome (Unit {0})) → verdictOf v (tt {0}) ≡ o → numberOf v ≡ answered o
+pub answered-by : (v : Verdict) (o : Outcome (Unit {0})) → verdictOf v (tt {0}) ≡ o → numberOf v ≡ answered o
 answered-by verdict.Taken o e = ap answered e
 answered-by (verdict.Refused q) o e = ap answered e
 
-module _ (ws : List ℕ) (a : Answer) where
-  pub step-holds : (j : Held) (ws' : List ℕ) (t : Stepped) → holds j ≡ packedOf ws → nextOf t ≡ stepOf j 8192
-      → toldBy a ≡ plainly (numberOf (t .verdict)) → ws' ≡ slotWords (length ws) (heldOf (t .job)) → Settled (onSlot full Call.step ws) a ws' [] [] []
-  step-holds j ws' t e n h w =
-      rw (on-content full Call.step ws (holds j) e ∙ step-held j ws (isGiven (jobFor j)) refl (packed-words ws j e))
-      (record {
-        told = h ∙ ap plainly (answered-by (t .verdict) (stepOf j 8192 .answer) (ap (λ (x : Next). x .answer) n));
-        slot = w ∙ ap (λ (x : Next). slotWords (length ws) (x .job)) n;
-        taps = refl;
-        freqs = refl;
-        bytes = refl;
-      })
+pub step-holds : (ws ws' : List ℕ) (a : Answer) (j : Held) (t : Stepped) → holds j ≡ packedOf ws → nextOf t ≡ stepOf j 8192
+    → toldBy a ≡ plainly (numberOf (t .verdict)) → ws' ≡ slotWords (length ws) (heldOf (t .job)) → Settled (onSlot full Call.step ws) a ws' [] [] []
+step-holds ws ws' a j t e n h w =
+    rw (on-content full Call.step ws (holds j) e ∙ step-held j ws (isGiven (jobFor j)) refl (packed-words ws j e))
+    (record {
+      told = h ∙ ap plainly (answered-by (t .verdict) (stepOf j 8192 .answer) (ap (λ (x : Next). x .answer) n));
+      slot = w ∙ ap (λ (x : Next). slotWords (length ws) (x .job)) n;
+      taps = refl;
+      freqs = refl;
+      bytes = refl;
+    })

@@ -13,6 +13,7 @@ use Rattle.bank.specs.declared.Answer.{Answer}
 use Rattle.bank.specs.Sizes.{full, wiped, slotOf, putSlot}
 use Rattle.bank.specs.Calls.{Call, toldBy, plainly, tapsOf, freqsOf, bytesOf, room, onSlot, Settled}
 use Rattle.bank.specs.Bank.{gateOf, passed, placed, cleaned, ended, bankCall, Ends}
+use Rattle.bank.proofs.Refusals.{put-back}
 
 -- ---- refused at the gate: with 1 or with 2
 gate-few : (a b r d : Bool) → cond {A = ℕ} a 1 (cond b 1 (cond r (cond d 2 0) 1)) ≤ 2
@@ -74,6 +75,17 @@ unfolding slotOf putSlot
 ends-done call slot bank scratch s ws g r t f bs e z q h =
     let h′ : Settled (onSlot full call (slotOf full bank slot)) r ws t f bs = rw (wide (slot * 256)) at h in
     rw (wide (slot * 256)) (ends-put call slot bank scratch s ws g r t f bs e z q h′)
+
+-- a call that only looks at its slot
+pub ends-looked : (call : Call) (slot : ℕ) (bank scratch s : List ℕ) (g : ℕ) (r : Answer) (t f : List Float) (bs : List ℕ)
+    → g ≡ gateOf full (length bank) (length scratch) slot (room full call) → g ≡ 0 → s ≡ cleaned full g scratch
+    → (let ws = take (slot * 256 + 256 - slot * 256) (drop (slot * 256) bank) in Settled (onSlot full call ws) r ws t f bs)
+    → Ends (bankCall full call slot bank scratch) r bank s t f bs
+unfolding slotOf
+ends-looked call slot bank scratch s g r t f bs e z q h =
+    let h′ : Settled (onSlot full call (slotOf full bank slot)) r (slotOf full bank slot) t f bs = rw (wide (slot * 256)) at h in
+    let k = ends-put call slot bank scratch s (slotOf full bank slot) g r t f bs e z q h′ in
+    rw (put-back full bank slot) at k
 
 -- ---- a callee was lent the first n words of a scratch that was wiped, and they are wiped again
 wiped-over : (n : ℕ) (scratch s ys z : List ℕ) → s ≡ wiped n scratch → length ys ≡ n → z ≡ replicate n 0 → z ++ drop n (putMid 0 n s ys) ≡ wiped n scratch

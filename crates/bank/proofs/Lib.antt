@@ -15,4 +15,6 @@ pub mod WordLaws
 pub mod SlotLaws
 pub mod Judging
 pub mod CallLaws
+pub mod SaveLaws
+pub mod ReadLaws
 pub mod Ending

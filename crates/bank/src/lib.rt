@@ -4,9 +4,9 @@ mod slot;
 mod words;
 
 ghost use mathlib.Core.Path.{_≡_};
-ghost use mathlib.Core.Bool.{cond};
+ghost use mathlib.Core.Bool.{_&&_, cond};
 ghost use mathlib.Core.List.{[]};
-ghost use lib.Dec.{eqb};
+ghost use lib.Dec.{eqb, leb};
 ghost use lib.ListN.{length};
 ghost use Rattle.bank.specs.Sizes.{full};
 ghost use Rattle.bank.specs.Calls.{Call, toldBy, plainly, numberOf};
@@ -95,6 +95,45 @@ pub fn step(bank: &mut [u64], scratch: &mut [u64], slot: usize) -> Answer
     let r = calls::step_slot(&mut bank[a..e], &mut scratch[0..8192]);
     numbers::wipe(&mut scratch[..8192]);
     r
+}
+
+// Room for the longest design.
+fn has_room(taps: usize, freqs: usize) -> bool
+    ensures { λ r. ⌜ r ≡ (leb 128 taps && leb 65 freqs) ⌝ }
+{
+    if taps >= 128 { freqs >= 65 } else { false }
+}
+
+// The finished design of the job in a slot: taps and frequencies to the front of outputs of at least 128 and 65.
+pub fn read(
+    bank: &[u64],
+    scratch: &mut [u64],
+    slot: usize,
+    taps: &mut [f64],
+    freqs: &mut [f64],
+) -> Answer
+    ensures { λ r. ⌜ Ends (bankCall full (Call.read (now (taps .entry)) (now (freqs .entry))) slot (now (bank .entry)) (now (scratch .entry))) r (now (bank .entry)) (now (scratch .exit)) (now (taps .exit)) (now (freqs .exit)) [] ⌝ }
+{
+    let g = gate(bank.len(), scratch, slot, has_room(taps.len(), freqs.len()));
+    if g != 0 {
+        return turned_away(g);
+    }
+    let a = slot * 256;
+    let e = a + 256;
+    calls::read_slot(&bank[a..e], taps, freqs)
+}
+
+// The image of the job in a slot, to the front of an output of at least 948 bytes; how many bytes it has.
+pub fn save(bank: &[u64], scratch: &mut [u64], slot: usize, out: &mut [u8]) -> Answer
+    ensures { λ r. ⌜ Ends (bankCall full (Call.save (now (out .entry))) slot (now (bank .entry)) (now (scratch .entry))) r (now (bank .entry)) (now (scratch .exit)) [] [] (now (out .exit)) ⌝ }
+{
+    let g = gate(bank.len(), scratch, slot, out.len() >= image::BYTES);
+    if g != 0 {
+        return turned_away(g);
+    }
+    let a = slot * 256;
+    let e = a + 256;
+    calls::save_slot(&bank[a..e], out)
 }
 
 // The job of an image, into an empty slot.
