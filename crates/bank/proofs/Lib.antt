@@ -10,6 +10,7 @@ pub mod Settled
 pub mod RunSettled
 pub mod SavedRestored
 pub mod RestoredFirst
+pub mod NothingKept
 pub mod Unique
 pub mod WordLaws
 pub mod SlotLaws
