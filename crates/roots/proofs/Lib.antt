@@ -1,4 +1,6 @@
 pub mod RowLaws
+pub mod ReciprocalLaws
+pub mod EightLaws
 pub mod BracketLaws
 pub mod AnswerLaws
 pub mod Given

@@ -1,4 +1,5 @@
 pub mod Residual
 pub mod Rows
+pub mod Reciprocals
 pub mod Brackets
 pub mod Answer

@@ -1,8 +1,9 @@
 ghost use mathlib.Core.Path.{_≡_};
 ghost use Prim.Native.Nat.{_+_, _<_, _≤_};
 ghost use lib.ListN.{length};
-ghost use Rattle.numbers.specs.Loops.{tab};
+ghost use Rattle.numbers.specs.Loops.{run, tab};
 ghost use Rattle.numbers.specs.Refusals.{scalarOf, countOf, few};
+ghost use Rattle.roots.specs.Reciprocals.{Reciprocals, putBehind};
 ghost use Rattle.roots.specs.Brackets.{cellEnd, grid, opposite, halved, lowEnd, cell, cellOf, found, lowEnds};
 use crate::residual;
 use numbers::Count;
@@ -52,14 +53,65 @@ fn cell_ends(x: &mut [f64])
     }
 }
 
-// The residuals at the 65 cell ends.
-pub(crate) fn cell_residuals(a: &[[f64; 15]; 15], s: usize, g: &mut [f64])
+fn residuals_dividing(a: &[[f64; 15]; 15], s: usize, g: &mut [f64])
     requires { ⌜ (1 ≤ s) × (s ≤ 15) × (length (now g) ≡ 65) ⌝ }
     ensures { λ _. ⌜ now (g .exit) ≡ grid (now (a .entry)) s ⌝ }
 {
     let mut x = [0.0; 65];
     cell_ends(&mut x);
     residual::residuals(a, s, &x, g);
+}
+
+// Eight cell ends from j on.
+fn eight_ends(j: u32) -> [f64; 8]
+    requires { ⌜ j < 64 ⌝ }
+    ensures { λ r. ⌜ r ≡ tab (λ k. cellEnd (j + k)) 8 0 ⌝ }
+{
+    let mut x = [0.0; 8];
+    let mut k: u32 = 0;
+    while k < 8 {
+        x[k as usize] = cell_end(j + k);
+        k += 1;
+    }
+    x
+}
+
+fn put_eight(n: [f64; 8], b: usize, g: &mut [f64])
+    requires { ⌜ b + 8 ≤ length (now g) ⌝ }
+    ensures { λ _. ⌜ now (g .exit) ≡ run (putBehind b n) 8 0 (now (g .entry)) ⌝ }
+{
+    let mut k: usize = 0;
+    while k < 8 {
+        g[b + k] = n[k];
+        k += 1;
+    }
+}
+
+fn residuals_by_eights(a: &[[f64; 15]; 15], inverse: &[f64], s: usize, g: &mut [f64])
+    requires { ⌜ (1 ≤ s) × (s ≤ 15) × (length (now inverse) ≡ 14) × Reciprocals (now a) s (now inverse) × (length (now g) ≡ 65) ⌝ }
+    ensures { λ _. ⌜ now (g .exit) ≡ grid (now (a .entry)) s ⌝ }
+{
+    let mut i: usize = 0;
+    while i < 8 {
+        let x = eight_ends((8 * i) as u32);
+        let n = residual::eight_residuals(a, inverse, s, x);
+        put_eight(n, 8 * i, g);
+        i += 1;
+    }
+    g[64] = residual::residual(a, s, cell_end(64));
+}
+
+// The residuals at the 65 cell ends.
+pub(crate) fn cell_residuals(a: &[[f64; 15]; 15], s: usize, g: &mut [f64])
+    requires { ⌜ (1 ≤ s) × (s ≤ 15) × (length (now g) ≡ 65) ⌝ }
+    ensures { λ _. ⌜ now (g .exit) ≡ grid (now (a .entry)) s ⌝ }
+{
+    let mut inverse = [0.0; 14];
+    if residual::reciprocals(a, s, &mut inverse) {
+        residuals_by_eights(a, &inverse, s, g);
+    } else {
+        residuals_dividing(a, s, g);
+    }
 }
 
 // The low end that 40 halvings leave, or the midpoint that is a root; p is the residual at the low end.
