@@ -8,16 +8,18 @@ use native.Mathlib.Nat.{add-zero, sub-zero}
 use borrow.Author.Tests.{ne-eqb, eq-eqb}
 use lib.Dec.{T}
 use lib.ListN.{length}
-use lib.Ieee.{Float, binary64, fits, isNan}
+use lib.Ieee.{Float, binary64, fits, isNan, ofBits}
 use lib.Ieee.Scale.{finite}
+use Rattle.numbers.specs.Floats.{zero64}
 use Rattle.numbers.specs.Loops.{tab}
 use Rattle.numbers.proofs.Unit.{number-is}
 use Rattle.pruning.specs.declared.candidates.Candidate.{Candidate}
-use Rattle.pruning.specs.Candidates.{view, put, written}
-use Rattle.pruning.proofs.ViewLaws.{sound, view-more, length-put}
+use Rattle.pruning.specs.Candidates.{view, put, written, Framed}
+use Rattle.pruning.proofs.ViewLaws.{sound, view-more, length-put, framed-same, framed-put}
 use Rattle.numbers.specs.Outcome.{refused, gave}
 use Rattle.extrema.specs.Errors.{Curve, errorsFor}
 use Rattle.extrema.specs.Candidates.{candidate, joined, candidatesFor}
+use Rattle.extrema.specs.Batches.{mark}
 
 -- a candidate of finite numbers is read as it was written
 pub finite-written : (x e : Float) → T (fits binary64 x) → finite x ≡ true → T (fits binary64 e) → finite e ≡ true → written (candidate x e) ≡ candidate x e
@@ -26,6 +28,10 @@ finite-written x e f p g q =
   where
     number-is-not : (y : Float) → finite y ≡ true → T (not (isNan y))
     number-is-not y h = rw (number-is y h) (tt {0})
+
+pub mark-written : (x : Float) → T (fits binary64 x) → finite x ≡ true → written (mark x) ≡ mark x
+unfolding ofBits fits
+mark-written x f p = finite-written x zero64 f p tt refl
 
 -- ---- the candidates at some places: of their errors; the refusal of these; or none at no places
 module _ (c : Curve) (places : List Float) where
@@ -45,11 +51,12 @@ module _ (c : Curve) (places : List Float) where
 pub record Putting (g : ℕ → Candidate) (m n : ℕ) (w₀ : List ℕ) (i : ℕ) (w : List ℕ) : Type 0 where
   pub within : i ≤ m
   pub long : length w ≡ length w₀
+  pub framed : Framed (n + m) w₀ w
   pub rest : view w (n + i) ++ tab g (m - i) i ≡ view w₀ n ++ tab g m 0
 
 module _ {g : ℕ → Candidate} {m n : ℕ} {w₀ : List ℕ} where
   pub put-start : Putting g m n w₀ 0 w₀
-  put-start = record { within = omega arith; long = refl; rest = rw (add-zero, sub-zero) }
+  put-start = record { within = omega arith; long = refl; framed = framed-same (n + m) w₀; rest = rw (add-zero, sub-zero) }
 
   pub put-next : {i : ℕ} {w : List ℕ} → Putting g m n w₀ i w → i < m → n + i < length w / 2 → written (g i) ≡ g i → Putting g m n w₀ (i + 1) (put w (n + i) (g i))
   unfolding tab
@@ -59,6 +66,7 @@ module _ {g : ℕ → Candidate} {m n : ℕ} {w₀ : List ℕ} where
       record {
         within = omega arith;
         long = length-put w (n + i) (g i) ∙ p .long;
+        framed = framed-put (n + m) w₀ w (n + i) (g i) (omega arith) (p .framed);
         rest = rw (z, view-more w (n + i) (g i) e l, append-assoc) (rw k at (p .rest));
       }
 

@@ -1,7 +1,9 @@
 pub mod ErrorLaws
 pub mod CandidateLaws
 pub mod StageLaws
+pub mod BatchLaws
 pub mod ProxyLaws
+pub mod BatchStages
 pub mod PrunedLaws
 pub mod ExtremaLaws
 pub mod Growth

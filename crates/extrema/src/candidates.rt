@@ -4,7 +4,7 @@ ghost use mathlib.Core.List.{_++_};
 ghost use Prim.Native.Nat.{_+_, _≤_};
 ghost use lib.ListN.{length};
 ghost use Rattle.numbers.specs.Floats.{allFinite};
-ghost use Rattle.pruning.specs.Candidates.{view};
+ghost use Rattle.pruning.specs.Candidates.{view, Framed};
 ghost use Rattle.extrema.specs.Errors.{curve};
 ghost use Rattle.extrema.specs.Candidates.{joined, candidatesFor, Stage, Room};
 use crate::errors;
@@ -15,9 +15,9 @@ use numbers::Verdict;
 use pruning::Candidate;
 
 // Candidates with these errors behind the first n.
-fn put_all(places: &[f64], e: &[f64], words: &mut [u64], n: usize)
+pub(crate) fn put_all(places: &[f64], e: &[f64], words: &mut [u64], n: usize)
     requires { ⌜ Room (length (now places)) n (now words) × (length (now e) ≡ length (now places)) × (allFinite (now places) ≡ true) × (allFinite (now e) ≡ true) ⌝ }
-    ensures { λ _. ⌜ (view (now (words .exit)) (n + length (now (places .entry))) ≡ view (now (words .entry)) n ++ joined (now (places .entry)) (now (e .entry))) × (length (now (words .exit)) ≡ length (now (words .entry))) ⌝ }
+    ensures { λ _. ⌜ (view (now (words .exit)) (n + length (now (places .entry))) ≡ view (now (words .entry)) n ++ joined (now (places .entry)) (now (e .entry))) × Framed (n + length (now (places .entry))) (now (words .entry)) (now (words .exit)) ⌝ }
 {
     let mut i = 0;
     while i < places.len() {

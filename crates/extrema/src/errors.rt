@@ -95,10 +95,10 @@ pub(crate) fn errors(
     places: &[f64],
     out: &mut [f64],
 ) -> Verdict
-    requires { ⌜ (length (now places) ≤ 17) × (length (now out) ≡ length (now places)) ⌝ }
+    requires { ⌜ (length (now places) ≤ 64) × (length (now out) ≡ length (now places)) ⌝ }
     ensures { λ r. ⌜ verdictOf r (now (out .exit)) ≡ errorsFor (curve plan symmetry odd (now (x .entry)) (now (wk .entry)) (now (yk .entry))) (now (places .entry)) ⌝ }
 {
     let n = places.len();
-    let mut h = [0.0; 17];
+    let mut h = [0.0; 64];
     errors_with(plan, symmetry, odd, x, wk, yk, places, &mut h[..n], out)
 }

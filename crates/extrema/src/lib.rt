@@ -8,8 +8,10 @@ ghost use Rattle.numbers.specs.Refusals.{Answers};
 ghost use Rattle.extrema.specs.Errors.{curve};
 ghost use Rattle.extrema.specs.Candidates.{Stage, Room};
 ghost use Rattle.extrema.specs.Proxy.{endsOf, insideOf};
+ghost use Rattle.extrema.specs.Batches.{endsMarked, insideMarked, Behind};
 ghost use Rattle.extrema.specs.Extrema.{collected, extremaOf, extremaIn, packed, Found, prunedTo};
 
+mod batches;
 mod candidates;
 mod errors;
 mod proxy;
@@ -39,8 +41,8 @@ pub struct Extrema {
 // Two words for each of the 1,241 candidates that there may be.
 pub const WORDS: usize = 2482;
 
-// The ends of all subintervals.
-fn add_all_ends(
+// The ends of all subintervals, one after another: what is refused first is found here.
+fn add_each_ends(
     plan: Plan,
     symmetry: Symmetry,
     odd: bool,
@@ -70,8 +72,56 @@ fn add_all_ends(
     Count::Of(n)
 }
 
-// The extrema inside each subinterval, behind the first `start` candidates.
-fn add_all_inside(
+// The ends' places alone.
+fn mark_all_ends(list: [Interval; 73], count: usize, words: &mut [u64]) -> Count
+    requires { ⌜ (count ≤ 73) × Room (2 * count) 0 (now words) ⌝ }
+    ensures { λ r. ⌜ Behind (2 * count) (sweep endsMarked (take count list)) 0 r (now (words .entry)) (now (words .exit)) ⌝ }
+{
+    let mut n: usize = 0;
+    let mut i: usize = 0;
+    while i < count {
+        match proxy::mark_ends(list[i], words, n) {
+            Count::Of(m) => {
+                n = m;
+            }
+            Count::Refused(why) => {
+                return Count::Refused(why);
+            }
+        }
+        i += 1;
+    }
+    Count::Of(n)
+}
+
+// The ends of all subintervals: first all places, then the errors there.
+fn add_all_ends(
+    plan: Plan,
+    symmetry: Symmetry,
+    odd: bool,
+    x: &[f64],
+    wk: &[f64],
+    yk: &[f64],
+    list: [Interval; 73],
+    count: usize,
+    words: &mut [u64],
+) -> Count
+    requires { ⌜ (count ≤ 73) × Room (2 * count) 0 (now words) ⌝ }
+    ensures { λ r. ⌜ Stage (2 * count) (sweep (endsOf (curve plan symmetry odd (now (x .entry)) (now (wk .entry)) (now (yk .entry)))) (take count list)) 0 r (now (words .entry)) (now (words .exit)) ⌝ }
+{
+    match mark_all_ends(list, count, words) {
+        Count::Of(n) => {
+            if batches::settle_all(plan, symmetry, odd, x, wk, yk, words, 0, n) {
+                Count::Of(n)
+            } else {
+                add_each_ends(plan, symmetry, odd, x, wk, yk, list, count, words)
+            }
+        }
+        Count::Refused(_) => add_each_ends(plan, symmetry, odd, x, wk, yk, list, count, words),
+    }
+}
+
+// The extrema inside each subinterval, behind the first `start` candidates: one subinterval after another.
+fn add_each_inside(
     plan: Plan,
     symmetry: Symmetry,
     odd: bool,
@@ -101,6 +151,106 @@ fn add_all_inside(
         i += 1;
     }
     Count::Of(n)
+}
+
+// Their places alone.
+fn mark_all_inside(
+    plan: Plan,
+    symmetry: Symmetry,
+    odd: bool,
+    x: &[f64],
+    wk: &[f64],
+    yk: &[f64],
+    nodes: &[f64],
+    list: [Interval; 73],
+    count: usize,
+    words: &mut [u64],
+    start: usize,
+) -> Count
+    requires { ⌜ (count ≤ 73) × Room (15 * count) start (now words) × (2 ≤ length (now nodes)) × (length (now nodes) ≤ 17) ⌝ }
+    ensures { λ r. ⌜ Behind (15 * count) (sweep (insideMarked (curve plan symmetry odd (now (x .entry)) (now (wk .entry)) (now (yk .entry))) (now (nodes .entry))) (take count list)) start r (now (words .entry)) (now (words .exit)) ⌝ }
+{
+    let mut n = start;
+    let mut i: usize = 0;
+    while i < count {
+        match proxy::mark_inside(plan, symmetry, odd, x, wk, yk, nodes, list[i], words, n) {
+            Count::Of(m) => {
+                n = m;
+            }
+            Count::Refused(why) => {
+                return Count::Refused(why);
+            }
+        }
+        i += 1;
+    }
+    Count::Of(n)
+}
+
+// The extrema inside each subinterval, behind the first `start` candidates: first all places, then the errors there.
+fn add_all_inside(
+    plan: Plan,
+    symmetry: Symmetry,
+    odd: bool,
+    x: &[f64],
+    wk: &[f64],
+    yk: &[f64],
+    nodes: &[f64],
+    list: [Interval; 73],
+    count: usize,
+    words: &mut [u64],
+    start: usize,
+) -> Count
+    requires { ⌜ (count ≤ 73) × Room (15 * count) start (now words) × (2 ≤ length (now nodes)) × (length (now nodes) ≤ 17) ⌝ }
+    ensures { λ r. ⌜ Stage (15 * count) (sweep (insideOf (curve plan symmetry odd (now (x .entry)) (now (wk .entry)) (now (yk .entry))) (now (nodes .entry))) (take count list)) start r (now (words .entry)) (now (words .exit)) ⌝ }
+{
+    match mark_all_inside(
+        plan,
+        symmetry,
+        odd,
+        x,
+        wk,
+        yk,
+        nodes,
+        list,
+        count,
+        words,
+        start,
+    ) {
+        Count::Of(n) => {
+            if batches::settle_all(plan, symmetry, odd, x, wk, yk, words, start, n) {
+                Count::Of(n)
+            } else {
+                add_each_inside(
+                    plan,
+                    symmetry,
+                    odd,
+                    x,
+                    wk,
+                    yk,
+                    nodes,
+                    list,
+                    count,
+                    words,
+                    start,
+                )
+            }
+        }
+        Count::Refused(_) => {
+            add_each_inside(
+                plan,
+                symmetry,
+                odd,
+                x,
+                wk,
+                yk,
+                nodes,
+                list,
+                count,
+                words,
+                start,
+            )
+        }
+    }
 }
 
 // The candidates of all subintervals, sorted and pruned to n.

@@ -2,13 +2,15 @@ ghost use mathlib.Core.Path.{_≡_};
 ghost use Prim.Native.Nat.{_+_, _≤_};
 ghost use lib.ListN.{length};
 ghost use Rattle.extrema.specs.Errors.{curve};
-ghost use Rattle.extrema.specs.Candidates.{candidatesFor, Stage, Room};
-ghost use Rattle.extrema.specs.Proxy.{endsOf, onto, scaled, derivative, atRoots, ofCoefficients, ofErrors, insideOf};
+ghost use Rattle.numbers.specs.Refusals.{Wrote};
+ghost use Rattle.extrema.specs.Candidates.{Stage, Room};
+ghost use Rattle.extrema.specs.Proxy.{endsOf, onto, scaled, derivative, insideOf};
+ghost use Rattle.extrema.specs.Batches.{rootsOf, ofDerivative, ofNodes, placesIn, Listed, endsMarked, insideMarked, Behind};
+use crate::batches;
 use crate::candidates;
 use crate::errors;
 use bands::Plan;
 use bands::Symmetry;
-use colleague::Colleague;
 use fir_types::Interval;
 use numbers::Count;
 use numbers::Verdict;
@@ -30,6 +32,15 @@ pub(crate) fn add_ends(
 {
     let places = [v.begin, v.end];
     candidates::add_candidates(plan, symmetry, odd, x, wk, yk, &places, words, n)
+}
+
+// Their places alone.
+pub(crate) fn mark_ends(v: Interval, words: &mut [u64], n: usize) -> Count
+    requires { ⌜ Room 2 n (now words) ⌝ }
+    ensures { λ r. ⌜ Behind 2 (endsMarked v) n r (now (words .entry)) (now (words .exit)) ⌝ }
+{
+    let ends = [v.begin, v.end];
+    batches::mark_places(&ends, words, n)
 }
 
 // The places from -1 to 1 mapped onto the subinterval.
@@ -57,112 +68,49 @@ fn derive(a: &[f64], out: &mut [f64])
     }
 }
 
-fn add_at(
-    plan: Plan,
-    symmetry: Symmetry,
-    odd: bool,
-    x: &[f64],
-    wk: &[f64],
-    yk: &[f64],
-    v: Interval,
-    roots: &[f64],
-    words: &mut [u64],
-    n: usize,
-) -> Count
-    requires { ⌜ Room 15 n (now words) × (length (now roots) ≤ 15) ⌝ }
-    ensures { λ r. ⌜ Stage 15 (candidatesFor (curve plan symmetry odd (now (x .entry)) (now (wk .entry)) (now (yk .entry))) (scaled v (now (roots .entry)))) n r (now (words .entry)) (now (words .exit)) ⌝ }
+// The roots of the derivative: the matrix, and its roots.
+fn derivative_roots(ck: &[f64], roots: &mut [f64]) -> Count
+    requires { ⌜ length (now roots) ≡ 15 ⌝ }
+    ensures { λ r. ⌜ Wrote (rootsOf (now (ck .entry))) r (now (roots .entry)) (now (roots .exit)) ⌝ }
 {
-    let m = roots.len();
-    let mut places = [0.0; 15];
-    scale_onto(v, roots, &mut places[..m]);
-    candidates::add_candidates(plan, symmetry, odd, x, wk, yk, &places[..m], words, n)
-}
-
-fn add_at_roots(
-    plan: Plan,
-    symmetry: Symmetry,
-    odd: bool,
-    x: &[f64],
-    wk: &[f64],
-    yk: &[f64],
-    v: Interval,
-    m: Colleague,
-    words: &mut [u64],
-    n: usize,
-) -> Count
-    requires { ⌜ Room 15 n (now words) ⌝ }
-    ensures { λ r. ⌜ Stage 15 (atRoots (curve plan symmetry odd (now (x .entry)) (now (wk .entry)) (now (yk .entry))) v m) n r (now (words .entry)) (now (words .exit)) ⌝ }
-{
-    let mut roots = [0.0; 15];
-    match roots::find_roots(m, &mut roots) {
-        Count::Of(k) => add_at(plan, symmetry, odd, x, wk, yk, v, &roots[..k], words, n),
-        Count::Refused(why) => Count::Refused(why),
-    }
-}
-
-fn add_of_derivative(
-    plan: Plan,
-    symmetry: Symmetry,
-    odd: bool,
-    x: &[f64],
-    wk: &[f64],
-    yk: &[f64],
-    v: Interval,
-    a: &[f64],
-    ck: &mut [f64],
-    words: &mut [u64],
-    n: usize,
-) -> Count
-    requires { ⌜ Room 15 n (now words) × (length (now a) ≡ length (now ck) + 1) × (length (now a) ≤ 17) ⌝ }
-    ensures { λ r. ⌜ Stage 15 (ofCoefficients (curve plan symmetry odd (now (x .entry)) (now (wk .entry)) (now (yk .entry))) v (now (a .entry))) n r (now (words .entry)) (now (words .exit)) ⌝ }
-{
-    derive(a, ck);
     let c = colleague::colleague_matrix(ck);
     let matrix = c.matrix;
     let verdict = c.verdict;
     match verdict {
-        Verdict::Taken => add_at_roots(plan, symmetry, odd, x, wk, yk, v, matrix, words, n),
+        Verdict::Taken => roots::find_roots(matrix, roots),
         Verdict::Refused(why) => Count::Refused(why),
     }
 }
 
-fn add_of_errors(
-    plan: Plan,
-    symmetry: Symmetry,
-    odd: bool,
-    x: &[f64],
-    wk: &[f64],
-    yk: &[f64],
-    v: Interval,
-    e: &[f64],
-    a: &mut [f64],
-    words: &mut [u64],
-    n: usize,
-) -> Count
-    requires { ⌜ Room 15 n (now words) × (length (now a) ≡ length (now e)) × (2 ≤ length (now e)) × (length (now e) ≤ 17) ⌝ }
-    ensures { λ r. ⌜ Stage 15 (ofErrors (curve plan symmetry odd (now (x .entry)) (now (wk .entry)) (now (yk .entry))) v (now (e .entry))) n r (now (words .entry)) (now (words .exit)) ⌝ }
+fn places_of_derivative(v: Interval, a: &[f64], ck: &mut [f64], out: &mut [f64]) -> Count
+    requires { ⌜ (length (now a) ≡ length (now ck) + 1) × (length (now a) ≤ 17) × (length (now out) ≡ 15) ⌝ }
+    ensures { λ r. ⌜ Listed (ofDerivative v (now (a .entry))) r (now (out .exit)) ⌝ }
+{
+    derive(a, ck);
+    let mut roots = [0.0; 15];
+    match derivative_roots(ck, &mut roots) {
+        Count::Of(k) => {
+            scale_onto(v, &roots[..k], &mut out[..k]);
+            Count::Of(k)
+        }
+        Count::Refused(why) => Count::Refused(why),
+    }
+}
+
+// The places of the proxy's extrema, from the errors at the nodes.
+fn places_of_errors(v: Interval, e: &[f64], a: &mut [f64], out: &mut [f64]) -> Count
+    requires { ⌜ (length (now a) ≡ length (now e)) × (2 ≤ length (now e)) × (length (now e) ≤ 17) × (length (now out) ≡ 15) ⌝ }
+    ensures { λ r. ⌜ Listed (ofNodes v (now (e .entry))) r (now (out .exit)) ⌝ }
 {
     let m = e.len();
     let mut ck = [0.0; 16];
     match chebyshev::compute_cheby_coefficients(e, a) {
-        Verdict::Taken => add_of_derivative(
-            plan,
-            symmetry,
-            odd,
-            x,
-            wk,
-            yk,
-            v,
-            a,
-            &mut ck[..m - 1],
-            words,
-            n,
-        ),
+        Verdict::Taken => places_of_derivative(v, a, &mut ck[..m - 1], out),
         Verdict::Refused(why) => Count::Refused(why),
     }
 }
 
-fn add_of_nodes(
+fn places_of_nodes(
     plan: Plan,
     symmetry: Symmetry,
     odd: bool,
@@ -171,20 +119,54 @@ fn add_of_nodes(
     yk: &[f64],
     v: Interval,
     nodes: &[f64],
-    places: &mut [f64],
+    at: &mut [f64],
     e: &mut [f64],
     a: &mut [f64],
-    words: &mut [u64],
-    n: usize,
+    out: &mut [f64],
 ) -> Count
-    requires { ⌜ Room 15 n (now words) × (length (now places) ≡ length (now nodes)) × (length (now e) ≡ length (now nodes)) × (length (now a) ≡ length (now nodes)) × (2 ≤ length (now nodes)) × (length (now nodes) ≤ 17) ⌝ }
-    ensures { λ r. ⌜ Stage 15 (insideOf (curve plan symmetry odd (now (x .entry)) (now (wk .entry)) (now (yk .entry))) (now (nodes .entry)) v) n r (now (words .entry)) (now (words .exit)) ⌝ }
+    requires { ⌜ (length (now at) ≡ length (now nodes)) × (length (now e) ≡ length (now nodes)) × (length (now a) ≡ length (now nodes)) × (2 ≤ length (now nodes)) × (length (now nodes) ≤ 17) × (length (now out) ≡ 15) ⌝ }
+    ensures { λ r. ⌜ Listed (placesIn (curve plan symmetry odd (now (x .entry)) (now (wk .entry)) (now (yk .entry))) (now (nodes .entry)) v) r (now (out .exit)) ⌝ }
 {
-    scale_onto(v, nodes, places);
-    match errors::errors(plan, symmetry, odd, x, wk, yk, places, e) {
-        Verdict::Taken => add_of_errors(plan, symmetry, odd, x, wk, yk, v, e, a, words, n),
+    scale_onto(v, nodes, at);
+    match errors::errors(plan, symmetry, odd, x, wk, yk, at, e) {
+        Verdict::Taken => places_of_errors(v, e, a, out),
         Verdict::Refused(why) => Count::Refused(why),
     }
+}
+
+// The places of the extrema inside a subinterval.
+fn places_inside(
+    plan: Plan,
+    symmetry: Symmetry,
+    odd: bool,
+    x: &[f64],
+    wk: &[f64],
+    yk: &[f64],
+    v: Interval,
+    nodes: &[f64],
+    out: &mut [f64],
+) -> Count
+    requires { ⌜ (2 ≤ length (now nodes)) × (length (now nodes) ≤ 17) × (length (now out) ≡ 15) ⌝ }
+    ensures { λ r. ⌜ Listed (placesIn (curve plan symmetry odd (now (x .entry)) (now (wk .entry)) (now (yk .entry))) (now (nodes .entry)) v) r (now (out .exit)) ⌝ }
+{
+    let m = nodes.len();
+    let mut at = [0.0; 17];
+    let mut e = [0.0; 17];
+    let mut a = [0.0; 17];
+    places_of_nodes(
+        plan,
+        symmetry,
+        odd,
+        x,
+        wk,
+        yk,
+        v,
+        nodes,
+        &mut at[..m],
+        &mut e[..m],
+        &mut a[..m],
+        out,
+    )
 }
 
 // The extrema inside a subinterval, behind the first n candidates.
@@ -203,23 +185,42 @@ pub(crate) fn add_inside(
     requires { ⌜ Room 15 n (now words) × (2 ≤ length (now nodes)) × (length (now nodes) ≤ 17) ⌝ }
     ensures { λ r. ⌜ Stage 15 (insideOf (curve plan symmetry odd (now (x .entry)) (now (wk .entry)) (now (yk .entry))) (now (nodes .entry)) v) n r (now (words .entry)) (now (words .exit)) ⌝ }
 {
-    let m = nodes.len();
-    let mut places = [0.0; 17];
-    let mut e = [0.0; 17];
-    let mut a = [0.0; 17];
-    add_of_nodes(
-        plan,
-        symmetry,
-        odd,
-        x,
-        wk,
-        yk,
-        v,
-        nodes,
-        &mut places[..m],
-        &mut e[..m],
-        &mut a[..m],
-        words,
-        n,
-    )
+    let mut places = [0.0; 15];
+    match places_inside(plan, symmetry, odd, x, wk, yk, v, nodes, &mut places) {
+        Count::Of(k) => candidates::add_candidates(
+            plan,
+            symmetry,
+            odd,
+            x,
+            wk,
+            yk,
+            &places[..k],
+            words,
+            n,
+        ),
+        Count::Refused(why) => Count::Refused(why),
+    }
+}
+
+// Their places alone.
+pub(crate) fn mark_inside(
+    plan: Plan,
+    symmetry: Symmetry,
+    odd: bool,
+    x: &[f64],
+    wk: &[f64],
+    yk: &[f64],
+    nodes: &[f64],
+    v: Interval,
+    words: &mut [u64],
+    n: usize,
+) -> Count
+    requires { ⌜ Room 15 n (now words) × (2 ≤ length (now nodes)) × (length (now nodes) ≤ 17) ⌝ }
+    ensures { λ r. ⌜ Behind 15 (insideMarked (curve plan symmetry odd (now (x .entry)) (now (wk .entry)) (now (yk .entry))) (now (nodes .entry)) v) n r (now (words .entry)) (now (words .exit)) ⌝ }
+{
+    let mut places = [0.0; 15];
+    match places_inside(plan, symmetry, odd, x, wk, yk, v, nodes, &mut places) {
+        Count::Of(k) => batches::mark_places(&places[..k], words, n),
+        Count::Refused(why) => Count::Refused(why),
+    }
 }

@@ -1,108 +1,63 @@
 -- `extrema::add_all_ends` meets its contract. Assumes nothing.
-use Prim.Native.Nat.{_-_, _*_, _≤_}
-use mathlib.Core.Path.{_≡_, refl}
 use native.Mathlib.Omega.{arith}
-use lib.ListN.{length, take}
-use lib.Seq.{length-take-le, getD-take}
-use Rattle.numbers.specs.Outcome.{sweep}
-use Rattle.numbers.proofs.OutcomeLaws.{Sweeping, sweeps-start, sweeps-end}
-use Rattle.pruning.specs.Candidates.{view}
-use Rattle.extrema.specs.Errors.{curve}
-use Rattle.extrema.specs.Proxy.{endsOf}
-use Rattle.extrema.proofs.StageLaws.{stage-most, turn-next, turn-stop}
+use Rattle.extrema.proofs.StageLaws.{stage-most}
+use Rattle.extrema.proofs.BatchStages.{ends-both}
 use borrow.Author.Needs.{needs}
 use Rattle.extrema.proofs.add_all_ends.Statement.{statement}
 use Rattle.extrema.proofs.add_all_ends.Tie as tie
 
-abbrev Inv-loop : tie.InvT-loop
-Inv-loop plan symmetry odd x wk yk count words₀ list n₀ i₀ words n i =
-    (i ≤ count)
-    × (n ≤ 2 * i)
-    × (length words ≡ length words₀)
-    × (count ≤ length list)
-    × Sweeping (endsOf (curve plan symmetry odd x wk yk)) (take count list) i (view words n) (sweep (endsOf (curve plan symmetry odd x wk yk)) (take count list) (view words₀ 0))
+mark-all-ends-requires : tie.Need-mark-all-ends-requires
+mark-all-ends-requires c κs = search needs
 
-abbrev μ-loop : tie.MeasureT-loop
-μ-loop plan symmetry odd x wk yk count words₀ list n₀ i₀ words n i = count - i
+enum-known-n : tie.Need-enum-known-n
+enum-known-n c = search needs
 
-loop-holds : tie.Need-loop-holds Inv-loop μ-loop
-loop-holds c = (omega arith, omega arith, refl, search needs, sweeps-start)
+settle-all-requires : tie.Need-settle-all-requires
+settle-all-requires c κs =
+    let a = c .before .before .before .before .before .before .mark-all-ends .ensures in
+    let e = c .before .before .n .given .1 in
+    (omega arith, omega (arith, stage-most (a .stage) e, a .stage .long))
 
-mul-add-ends : tie.Need-mul-add-ends Inv-loop μ-loop
-mul-add-ends c = search needs
+add-each-ends-requires : tie.Need-add-each-ends-requires
+add-each-ends-requires c κs = search needs
 
-array-copy-out-add-ends : tie.Need-array-copy-out-add-ends Inv-loop μ-loop
-array-copy-out-add-ends c = search needs
+enum-told : tie.Need-enum-told
+enum-told c = search needs
 
-add-ends-requires : tie.Need-add-ends-requires Inv-loop μ-loop
-add-ends-requires c κs = search needs
+add-each-ends-requires-2 : tie.Need-add-each-ends-requires-2
+add-each-ends-requires-2 c κs = search needs
 
-enum-known-m : tie.Need-enum-known-m Inv-loop μ-loop
-enum-known-m c = search needs
-
-enum-known-why : tie.Need-enum-known-why Inv-loop μ-loop
-enum-known-why c = search needs
-
-same-length : tie.Need-same-length Inv-loop μ-loop
+same-length : tie.Need-same-length
 same-length c = search needs
 
-returns : tie.Need-returns Inv-loop μ-loop
-returns c =
-    let g = c .before .before .before .before .before .before .before .before .before .before .before .before .before .before .args in
-    let k = c .before .before .before .before .before .before .before .before .before .loop in
-    let l : length (take (g .count) (g .t7)) ≡ g .count = length-take-le (g .count) (g .t7) (k .inv .3) in
-    record {
-      is = turn-stop _ _ (getD-take (g .count) (g .t7) (k .i) _ (omega arith)) (omega arith) (k .inv .4) (c .before .before .before .before .before .add-ends .ensures) (c .before .why .given .1);
-      most = omega arith;
-      long = search needs;
-    }
+returns : tie.Need-returns
+returns c = ends-both _ _ (c .before .before .before .before .before .before .before .before .before .before .mark-all-ends .ensures) (c .before .before .before .before .before .before .n .given .1) (c .before .before .before .settle-all .ensures) (c .if1 .taken)
 
-add-i : tie.Need-add-i Inv-loop μ-loop
-add-i c = search needs
-
-loop-less : tie.Need-loop-less Inv-loop μ-loop
-loop-less c = search needs
-
-loop-again : tie.Need-loop-again Inv-loop μ-loop
-loop-again c =
-    let g = c .before .before .before .before .before .before .before .before .before .before .before .before .before .before .args in
-    let k = c .before .before .before .before .before .before .before .before .before .loop in
-    let l : length (take (g .count) (g .t7)) ≡ g .count = length-take-le (g .count) (g .t7) (k .inv .3) in
-    let a = c .before .before .before .before .before .add-ends .ensures in
-    let e = c .before .m .given .1 in (
-      omega arith,
-      omega (arith, stage-most a e),
-      search needs,
-      k .inv .3,
-      turn-next _ _ (getD-take (g .count) (g .t7) (k .i) _ (omega arith)) (omega arith) (k .inv .4) a e,
-    )
-
-same-length-2 : tie.Need-same-length-2 Inv-loop μ-loop
+same-length-2 : tie.Need-same-length-2
 same-length-2 c = search needs
 
-returns-2 : tie.Need-returns-2 Inv-loop μ-loop
-returns-2 c =
-    let g = c .before .before .before .before .before .before .args in
-    let k = c .before .loop in
-    let l : length (take (g .count) (g .t7)) ≡ g .count = length-take-le (g .count) (g .t7) (k .inv .3) in
-    record { is = sweeps-end (k .inv .4) (omega arith); most = omega arith; long = k .inv .2 }
+returns-2 : tie.Need-returns-2
+returns-2 c = search needs
+
+same-length-3 : tie.Need-same-length-3
+same-length-3 c = search needs
+
+returns-3 : tie.Need-returns-3
+returns-3 c = search needs
 
 pub add-all-ends-spec : {M : Type 1} → statement M
 add-all-ends-spec =
     tie.close
     (tie.spec
-    Inv-loop
-    μ-loop
-    loop-holds
-    mul-add-ends
-    array-copy-out-add-ends
-    add-ends-requires
-    enum-known-m
-    enum-known-why
+    mark-all-ends-requires
+    enum-known-n
+    settle-all-requires
+    add-each-ends-requires
+    enum-told
+    add-each-ends-requires-2
     same-length
     returns
-    add-i
-    loop-less
-    loop-again
     same-length-2
-    returns-2)
+    returns-2
+    same-length-3
+    returns-3)

@@ -35,7 +35,7 @@ returns : tie.Need-returns
 returns c = record {
   is = candidates-next _ _ _ (omega arith) (taken-is _ (c .before .before .before .before .before .before .before .before .before .errors .ensures) (c .before .before .before .before .before .enum-told .given .1)) (c .before .before .put-all .ensures .0);
   most = omega arith;
-  long = c .before .before .put-all .ensures .1;
+  long = c .before .before .put-all .ensures .1 .long;
 }
 
 same-length-3 : tie.Need-same-length-3

@@ -56,7 +56,7 @@ same-length : tie.Need-same-length Inv-loop μ-loop
 same-length c = search needs
 
 returns : tie.Need-returns Inv-loop μ-loop
-returns c = (put-end (c .before .loop .inv) (omega arith), c .before .loop .inv .long)
+returns c = (put-end (c .before .loop .inv) (omega arith), c .before .loop .inv .framed)
 
 pub put-all-spec : {M : Type 1} → statement M
 put-all-spec =

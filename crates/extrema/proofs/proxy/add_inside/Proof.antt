@@ -1,48 +1,64 @@
 -- `extrema::proxy::add_inside` meets its contract. Assumes nothing.
-use mathlib.Core.Path.{sym}
+use mathlib.Core.Path.{_≡_, sym}
 use native.Mathlib.Omega.{arith}
+use lib.ListN.{length}
 use lib.Seq.{length-take-le}
+use Rattle.extrema.proofs.ProxyLaws.{listed-is, listed-refused, listed-most, stage-inside, inside-stop}
 use borrow.Author.Needs.{needs}
 use Rattle.extrema.proofs.proxy.add_inside.Statement.{statement}
 use Rattle.extrema.proofs.proxy.add_inside.Tie as tie
 
-array-borrow-prefix-places : tie.Need-array-borrow-prefix-places
-array-borrow-prefix-places c = search needs
+slice-aggregate-places-inside : tie.Need-slice-aggregate-places-inside
+slice-aggregate-places-inside c = search needs
 
-slice-aggregate-add-of-nodes : tie.Need-slice-aggregate-add-of-nodes
-slice-aggregate-add-of-nodes c = sym (length-take-le _ _ (omega arith))
+places-inside-requires : tie.Need-places-inside-requires
+places-inside-requires c κs = search needs
 
-array-borrow-prefix-e : tie.Need-array-borrow-prefix-e
-array-borrow-prefix-e c = search needs
+enum-known-k : tie.Need-enum-known-k
+enum-known-k c = search needs
 
-slice-aggregate-add-of-nodes-2 : tie.Need-slice-aggregate-add-of-nodes-2
-slice-aggregate-add-of-nodes-2 c = sym (length-take-le _ _ (omega arith))
+array-share-prefix-places : tie.Need-array-share-prefix-places
+array-share-prefix-places c = let z = listed-most (c .before .before .before .before .places-inside .ensures) (c .before .k .given .1) in
+    let q : length (c .before .before .before .before .places-inside .last .1 .1 .1 .1 .1 .1 .1 .1 .0) ≡ 15 = search needs in
+    omega (arith, z, q)
 
-array-borrow-prefix-a : tie.Need-array-borrow-prefix-a
-array-borrow-prefix-a c = search needs
+slice-aggregate-add-candidates : tie.Need-slice-aggregate-add-candidates
+slice-aggregate-add-candidates c = sym (length-take-le _ _ (array-share-prefix-places (c .before)))
 
-slice-aggregate-add-of-nodes-3 : tie.Need-slice-aggregate-add-of-nodes-3
-slice-aggregate-add-of-nodes-3 c = sym (length-take-le _ _ (omega arith))
+add-candidates-requires : tie.Need-add-candidates-requires
+add-candidates-requires c κs = let z = listed-most (c .before .before .before .before .before .before .places-inside .ensures) (c .before .before .before .k .given .1) in
+    let l = length-take-le _ (c .before .before .before .before .before .before .places-inside .last .1 .1 .1 .1 .1 .1 .1 .1 .0) (array-share-prefix-places (c .before .before)) in
+    (omega (arith, l, z), omega (arith, l, z))
 
-add-of-nodes-requires : tie.Need-add-of-nodes-requires
-add-of-nodes-requires c κs = (omega arith, length-take-le _ _ (omega arith), length-take-le _ _ (omega arith), length-take-le _ _ (omega arith), omega arith, omega arith)
+enum-known-why : tie.Need-enum-known-why
+enum-known-why c = search needs
 
 same-length : tie.Need-same-length
 same-length c = search needs
 
 returns : tie.Need-returns
-returns c = search needs
+returns c = let z = listed-most (c .before .before .before .before .before .before .before .before .before .places-inside .ensures) (c .before .before .before .before .before .before .k .given .1) in
+    let l = length-take-le _ (c .before .before .before .before .before .before .before .before .before .places-inside .last .1 .1 .1 .1 .1 .1 .1 .1 .0) (array-share-prefix-places (c .before .before .before .before .before)) in
+    stage-inside _ _ _ _ (listed-is (c .before .before .before .before .before .before .before .before .before .places-inside .ensures) (c .before .before .before .before .before .before .k .given .1)) (omega (arith, l, z)) (c .before .before .add-candidates .ensures)
+
+returns-2 : tie.Need-returns-2
+returns-2 c = record {
+  is = inside-stop _ _ _ _ (listed-refused (c .before .before .before .before .places-inside .ensures) (c .before .why .given .1));
+  most = omega arith;
+  long = search needs;
+}
 
 pub add-inside-spec : {M : Type 1} → statement M
 add-inside-spec =
     tie.close
     (tie.spec
-    array-borrow-prefix-places
-    slice-aggregate-add-of-nodes
-    array-borrow-prefix-e
-    slice-aggregate-add-of-nodes-2
-    array-borrow-prefix-a
-    slice-aggregate-add-of-nodes-3
-    add-of-nodes-requires
+    slice-aggregate-places-inside
+    places-inside-requires
+    enum-known-k
+    array-share-prefix-places
+    slice-aggregate-add-candidates
+    add-candidates-requires
+    enum-known-why
     same-length
-    returns)
+    returns
+    returns-2)

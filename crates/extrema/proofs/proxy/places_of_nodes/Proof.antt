@@ -1,12 +1,12 @@
--- `extrema::proxy::add_of_nodes` meets its contract. Assumes nothing.
+-- `extrema::proxy::places_of_nodes` meets its contract. Assumes nothing.
 use mathlib.Core.Path.{ap, _∙_}
 use native.Mathlib.Omega.{arith}
 use Rattle.numbers.proofs.OutcomeLaws.{bind-next, bind-stop, taken-is, taken-refused}
 use Rattle.extrema.specs.Errors.{errorsFor}
-use Rattle.extrema.specs.Proxy.{insideOf}
+use Rattle.extrema.specs.Batches.{placesIn}
 use borrow.Author.Needs.{needs}
-use Rattle.extrema.proofs.proxy.add_of_nodes.Statement.{statement}
-use Rattle.extrema.proofs.proxy.add_of_nodes.Tie as tie
+use Rattle.extrema.proofs.proxy.places_of_nodes.Statement.{statement}
+use Rattle.extrema.proofs.proxy.places_of_nodes.Tie as tie
 
 scale-onto-requires : tie.Need-scale-onto-requires
 scale-onto-requires c κs = search needs
@@ -17,8 +17,8 @@ errors-requires c κs = search needs
 enum-told : tie.Need-enum-told
 enum-told c = search needs
 
-add-of-errors-requires : tie.Need-add-of-errors-requires
-add-of-errors-requires c κs = search needs
+places-of-errors-requires : tie.Need-places-of-errors-requires
+places-of-errors-requires c κs = search needs
 
 enum-known-why : tie.Need-enum-known-why
 enum-known-why c = search needs
@@ -36,11 +36,10 @@ same-length-4 : tie.Need-same-length-4
 same-length-4 c = search needs
 
 returns : tie.Need-returns
-unfolding insideOf
+unfolding placesIn
 returns c = record {
-  is = bind-next _ (taken-is _ (c .before .before .before .before .before .before .before .before .before .before .before .before .errors .ensures) (c .before .before .before .before .before .before .before .before .enum-told .given .1) ∙ ap (errorsFor _) (c .before .before .before .before .before .before .before .before .before .before .before .before .before .before .before .before .before .scale-onto .ensures)) (c .before .before .before .before .add-of-errors .ensures .is);
-  most = c .before .before .before .before .add-of-errors .ensures .most;
-  long = c .before .before .before .before .add-of-errors .ensures .long;
+  is = bind-next _ (taken-is _ (c .before .before .before .before .before .before .before .before .before .before .before .before .errors .ensures) (c .before .before .before .before .before .before .before .before .enum-told .given .1) ∙ ap (errorsFor _) (c .before .before .before .before .before .before .before .before .before .before .before .before .before .before .before .before .before .scale-onto .ensures)) (c .before .before .before .before .places-of-errors .ensures .is);
+  most = c .before .before .before .before .places-of-errors .ensures .most;
 }
 
 same-length-5 : tie.Need-same-length-5
@@ -50,21 +49,20 @@ same-length-6 : tie.Need-same-length-6
 same-length-6 c = search needs
 
 returns-2 : tie.Need-returns-2
-unfolding insideOf
+unfolding placesIn
 returns-2 c = record {
   is = bind-stop _ (taken-refused _ (c .before .before .before .before .before .errors .ensures) (c .before .why .given .1) ∙ ap (errorsFor _) (c .before .before .before .before .before .before .before .before .before .before .scale-onto .ensures));
   most = omega arith;
-  long = search needs;
 }
 
-pub add-of-nodes-spec : {M : Type 1} → statement M
-add-of-nodes-spec =
+pub places-of-nodes-spec : {M : Type 1} → statement M
+places-of-nodes-spec =
     tie.close
     (tie.spec
     scale-onto-requires
     errors-requires
     enum-told
-    add-of-errors-requires
+    places-of-errors-requires
     enum-known-why
     same-length
     same-length-2
