@@ -23,12 +23,12 @@ use Rattle.colleague.proofs.Given.{given-bounded}
 use Rattle.fir_types.specs.declared.edges.Interval.{Interval}
 use Rattle.pruning.specs.declared.candidates.Candidate.{Candidate}
 use Rattle.pruning.specs.Candidates.{none, all, view, Framed}
-use Rattle.roots.specs.Answer.{rootsFor}
+use Rattle.roots.specs.Answer.{rootsFor, derivativeRoots}
 use Rattle.roots.proofs.Given.{roots-few}
 use Rattle.extrema.specs.Errors.{Curve, errorsFor}
 use Rattle.extrema.specs.Candidates.{joined, candidatesFor, Stage}
 use Rattle.extrema.specs.Proxy.{endsOf, scaled, derivative, insideOf}
-use Rattle.extrema.specs.Batches.{rootsOf, ofDerivative, ofNodes, placesIn, mark, marked, endsMarked, insideMarked, Behind, placeOf, Settled, Tried}
+use Rattle.extrema.specs.Batches.{ofDerivative, ofNodes, placesIn, mark, marked, endsMarked, insideMarked, Behind, placeOf, Settled, Tried}
 use Rattle.extrema.proofs.StageLaws.{stage-is}
 use Rattle.extrema.proofs.ProxyLaws.{length-scaled, inside-is}
 use Rattle.extrema.proofs.BatchLaws.{map-append, swept, view-front, settled-here, settled-then}
@@ -128,11 +128,11 @@ module _ (c : Curve) where
       (λ v places l p. ap (λ z. candidatesFor c z l) (gave-same p)) vs b e a h
 
   places-few : (nodes : List Float) (v : Interval) (places : List Float) → placesIn c nodes v ≡ gave places → length places ≤ 15
-  unfolding placesIn ofNodes rootsOf
+  unfolding placesIn ofNodes
   places-few nodes v places q =
       let e = bind-given (errorsFor c (scaled v nodes)) (ofNodes v) q in
       let a = bind-given (coefficientsFor (e .value) (length (e .value))) (ofDerivative v) (e .rest) in
-      let r = bind-given (rootsOf (derivative (a .value))) (λ r. gave (scaled v r)) (a .rest) in
+      let r = bind-given (derivativeRoots (derivative (a .value)) 15) (λ r. gave (scaled v r)) (a .rest) in
       let m = bind-given (colleagueFor (derivative (a .value))) (λ m. rootsFor m 15) (r .given) in
       let b = given-bounded (derivative (a .value)) (m .value) (m .given) .size in
       let f = roots-few (m .value) 15 (r .value) (m .rest) in

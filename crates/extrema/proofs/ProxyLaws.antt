@@ -19,31 +19,22 @@ use Rattle.colleague.specs.Answer.{colleagueFor}
 use Rattle.fir_types.specs.declared.edges.Interval.{Interval}
 use Rattle.pruning.specs.declared.candidates.Candidate.{Candidate}
 use Rattle.pruning.specs.Candidates.{view}
-use Rattle.roots.specs.Answer.{rootsFor}
+use Rattle.roots.specs.Answer.{rootsFor, derivativeRoots}
 use Rattle.extrema.specs.Errors.{Curve, errorsFor}
 use Rattle.extrema.specs.Candidates.{candidatesFor, Stage}
 use Rattle.extrema.specs.Proxy.{onto, scaled, derivative, atRoots, ofCoefficients, ofErrors, insideOf}
-use Rattle.extrema.specs.Batches.{rootsOf, ofDerivative, ofNodes, placesIn, Listed}
+use Rattle.extrema.specs.Batches.{ofDerivative, ofNodes, placesIn, Listed}
 
 pub length-scaled : (v : Interval) (l : List Float) → length (scaled v l) ≡ length l
 length-scaled v l = length-tab (λ i. onto v (getD l i nan)) (length l) 0
 
--- ---- the derivative's roots
-pub roots-next : (ck : List Float) (m : Colleague) {n : ℕ} {r : Count} {w w' : List Float} → gave m ≡ colleagueFor ck → n ≡ 15 → Wrote (rootsFor m n) r w w' → Wrote (rootsOf ck) r w w'
-unfolding rootsOf
-roots-next ck m e h a = rw (← e) (rw h at a)
-
-pub roots-stop : (ck : List Float) {n : ℕ} → refused n ≡ colleagueFor ck → refused n ≡ rootsOf ck
-unfolding rootsOf
-roots-stop ck e = bind-stop _ e
-
 -- ---- mapped onto the subinterval, at the front of a longer list
-pub derived-next : (v : Interval) (a ck r out t : List Float) (k : ℕ) → ck ≡ derivative a → gave r ≡ rootsOf ck → length r ≡ k → k ≤ 15 → out ≡ scaled v r → Listed (ofDerivative v a) (count.Of k) (out ++ t)
+pub derived-next : (v : Interval) (a ck r out t : List Float) (k : ℕ) → ck ≡ derivative a → gave r ≡ derivativeRoots ck 15 → length r ≡ k → k ≤ 15 → out ≡ scaled v r → Listed (ofDerivative v a) (count.Of k) (out ++ t)
 derived-next v a ck r out t k d e h most o =
     let z : take k (out ++ t) ≡ scaled v r = rw o (take-at (scaled v r) t k (length-scaled v r ∙ h)) in
     record { is = rw (z, ← d, ← e); most = most }
 
-pub derived-stop : (v : Interval) (a ck : List Float) {n : ℕ} → ck ≡ derivative a → refused n ≡ rootsOf ck → refused n ≡ ofDerivative v a
+pub derived-stop : (v : Interval) (a ck : List Float) {n : ℕ} → ck ≡ derivative a → refused n ≡ derivativeRoots ck 15 → refused n ≡ ofDerivative v a
 derived-stop v a ck d e = rw (← d) (bind-stop _ e)
 
 -- ---- what a match on such a count tells
@@ -64,7 +55,7 @@ bind-bind (gave a) f g = refl
 
 module _ (c : Curve) (v : Interval) (l : List Candidate) where
   at-derivative : (a : List Float) → bind (ofDerivative v a) (λ places. candidatesFor c places l) ≡ ofCoefficients c v a l
-  unfolding ofCoefficients atRoots rootsOf
+  unfolding ofCoefficients atRoots
   at-derivative a =
       bind-bind (bind (colleagueFor (derivative a)) (λ m. rootsFor m 15)) (λ r. gave (scaled v r)) (λ places. candidatesFor c places l)
       ∙ bind-bind (colleagueFor (derivative a)) (λ m. rootsFor m 15) (λ r. candidatesFor c (scaled v r) l)

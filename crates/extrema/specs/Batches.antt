@@ -12,22 +12,18 @@ use Rattle.numbers.specs.Refusals.{countOf, few}
 use Rattle.numbers.specs.declared.Count.{Count}
 use Rattle.numbers.specs.declared.Count.the-variants as count
 use Rattle.chebyshev.specs.Coefficients.{coefficientsFor}
-use Rattle.colleague.specs.Answer.{colleagueFor}
 use Rattle.fir_types.specs.declared.edges.Interval.{Interval}
 use Rattle.pruning.specs.declared.candidates.Candidate.{Candidate}
 use Rattle.pruning.specs.Candidates.{view, Framed}
-use Rattle.roots.specs.Answer.{rootsFor}
+use Rattle.roots.specs.Answer.{derivativeRoots}
 use Rattle.extrema.specs.Errors.{Curve, errorsFor}
 use Rattle.extrema.specs.Candidates.{candidate, Stage}
 use Rattle.extrema.specs.Proxy.{scaled, derivative}
 
 -- ---- the places inside a subinterval
 -- of the derivative's coefficients: 10, 11, 12
-unfoldable pub rootsOf : List Float → Outcome (List Float)
-rootsOf ck = bind (colleagueFor ck) (λ m. rootsFor m 15)
-
 abbrev pub ofDerivative : Interval → List Float → Outcome (List Float)
-ofDerivative v a = bind (rootsOf (derivative a)) (λ r. gave (scaled v r))
+ofDerivative v a = bind (derivativeRoots (derivative a) 15) (λ r. gave (scaled v r))
 
 -- of the errors at the nodes
 unfoldable pub ofNodes : Interval → List Float → Outcome (List Float)

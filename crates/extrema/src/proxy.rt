@@ -2,10 +2,9 @@ ghost use mathlib.Core.Path.{_≡_};
 ghost use Prim.Native.Nat.{_+_, _≤_};
 ghost use lib.ListN.{length};
 ghost use Rattle.extrema.specs.Errors.{curve};
-ghost use Rattle.numbers.specs.Refusals.{Wrote};
 ghost use Rattle.extrema.specs.Candidates.{Stage, Room};
 ghost use Rattle.extrema.specs.Proxy.{endsOf, onto, scaled, derivative, insideOf};
-ghost use Rattle.extrema.specs.Batches.{rootsOf, ofDerivative, ofNodes, placesIn, Listed, endsMarked, insideMarked, Behind};
+ghost use Rattle.extrema.specs.Batches.{ofDerivative, ofNodes, placesIn, Listed, endsMarked, insideMarked, Behind};
 use crate::batches;
 use crate::candidates;
 use crate::errors;
@@ -68,27 +67,14 @@ fn derive(a: &[f64], out: &mut [f64])
     }
 }
 
-// The roots of the derivative: the matrix, and its roots.
-fn derivative_roots(ck: &[f64], roots: &mut [f64]) -> Count
-    requires { ⌜ length (now roots) ≡ 15 ⌝ }
-    ensures { λ r. ⌜ Wrote (rootsOf (now (ck .entry))) r (now (roots .entry)) (now (roots .exit)) ⌝ }
-{
-    let c = colleague::colleague_matrix(ck);
-    let matrix = c.matrix;
-    let verdict = c.verdict;
-    match verdict {
-        Verdict::Taken => roots::find_roots(matrix, roots),
-        Verdict::Refused(why) => Count::Refused(why),
-    }
-}
-
+// The places of the extrema, from the coefficients of the proxy.
 fn places_of_derivative(v: Interval, a: &[f64], ck: &mut [f64], out: &mut [f64]) -> Count
     requires { ⌜ (length (now a) ≡ length (now ck) + 1) × (length (now a) ≤ 17) × (length (now out) ≡ 15) ⌝ }
     ensures { λ r. ⌜ Listed (ofDerivative v (now (a .entry))) r (now (out .exit)) ⌝ }
 {
     derive(a, ck);
     let mut roots = [0.0; 15];
-    match derivative_roots(ck, &mut roots) {
+    match roots::derivative_roots(ck, &mut roots) {
         Count::Of(k) => {
             scale_onto(v, &roots[..k], &mut out[..k]);
             Count::Of(k)
