@@ -38,9 +38,11 @@ def declared():
                 if re.search(r"(^|\s):(\s|$)", line) or "ruleset" in line[:15]:
                     if top[1] not in ("record", "data"):
                         found[top[1]].add("spec" if "/specs/" in p else "lemma")
-            inner = re.match(r"\s+(?:pub )?([^\s:(){}=λ]+)\s*:\s", line)
+            inner = re.match(r"\s+((?:(?:abbrev|unfoldable|pub)\s+)*)([^\s:(){}=λ]+)\s*:\s", line)
             if inner:
-                found[inner[1]].add("field")
+                # with a mark that opens a body it is a definition of a module with parameters
+                marked = "abbrev" in inner[1] or "unfoldable" in inner[1]
+                found[inner[2]].add(("spec" if "/specs/" in p else "lemma") if marked else "field")
     return found
 
 

@@ -5,14 +5,14 @@ ghost use Rattle.angle_values.specs.Lines.{number_of, name_of, value_after, plac
 use numbers::{of_word, to_word};
 use text::{Digits, Token};
 
-#[derive(Drop)]
+#[derive(Clone, Copy)]
 pub enum Function {
     Cosine,
     Sine,
     Arccosine,
 }
 
-#[derive(Drop)]
+#[derive(Clone, Copy)]
 pub struct Case {
     pub function: Function,
     pub place: f64,
@@ -20,20 +20,20 @@ pub struct Case {
 }
 
 // What is read from a place on: a case and where it begins and ends, something else and where it begins, or the end.
-#[derive(Drop)]
+#[derive(Clone, Copy)]
 pub enum Line {
     Asks(Case, usize, usize),
     Malformed(usize),
     End,
 }
 
-#[derive(Drop)]
+#[derive(Clone, Copy)]
 enum Numeral {
     Of(f64),
     Wrong,
 }
 
-#[derive(Drop)]
+#[derive(Clone, Copy)]
 enum Named {
     Of(Function),
     Wrong,

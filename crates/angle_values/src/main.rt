@@ -1,4 +1,6 @@
 // Compares the angle functions with the host's values at the places of the stored list on standard input.
+#![tactic(auto)]
+
 mod list;
 mod verdicts;
 
@@ -10,7 +12,7 @@ use verdicts::Verdict;
 const ROOM: usize = 262144;
 
 // How many places of a function were compared, and with what outcome.
-#[derive(Drop)]
+#[derive(Clone, Copy)]
 struct Tally {
     places: u64,
     near: u64,
@@ -44,7 +46,7 @@ impl Tally {
 }
 
 // What has been compared so far, and from where on the list is still to be read.
-#[derive(Drop)]
+#[derive(Clone, Copy)]
 struct Judged {
     at: usize,
     is_over: bool,

@@ -6,7 +6,7 @@ ghost use Rattle.angle_values.specs.Verdicts.{outcome_of, verdict_of};
 use crate::list::{Case, Function};
 use numbers::{Scalar, magnitude, to_word};
 
-#[derive(Drop)]
+#[derive(Clone, Copy)]
 pub enum Verdict {
     Same,
     Near,

@@ -13,7 +13,7 @@ use Rattle.angles.specs.Constants.{pi}
 use Rattle.angles.specs.Series.{sine_part, cosine_part}
 use Rattle.angles.specs.Turns.{taken, cosine_at, sine_at, cosine_of, sine_of}
 use Rattle.angles.specs.Root.{raise, lift, settle, heron, root_in, root_of}
-use Rattle.angles.specs.Arccosine.{arcsine_part, arcsine, near_at, far_at, in_unit, arccosine_at, arccosine_of}
+use Rattle.angles.specs.Arccosine.{arcsine_part, arcsine, far_at, in_unit, arccosine_at, arccosine_of}
 
 cosine_plus : cosine_of +0 ≡ gave one64
 unfolding cosine_of taken cosine_at cosine_part of_bits neg add sub mul lt le eq

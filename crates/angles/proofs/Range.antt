@@ -1,13 +1,13 @@
 -- Whatever is given, a cosine or a sine that is answered lies in -1 to 1 and an arccosine in 0 to PI, none of them a NaN; an
 -- arccosine is an angle that cosine and sine take; and what has one lies in -1 to 1. Assumes nothing.
-use mathlib.Core.Path.{◌≡◌, refl, sym, ◌∙◌}
+use mathlib.Core.Path.{◌≡◌, refl}
 use mathlib.Core.Bool.{Bool, true, false, cond}
 use Prim.Native.Nat.{ℕ}
 use native.Mathlib.Omega.{arith}
 use lib.Ieee.{Float, le, lt, eq, neg, of_bits}
 use lib.Ieee.Scale.{finite}
 use Rattle.numbers.specs.Floats.{zero64, one64, clamp, Inside}
-use Rattle.numbers.specs.Outcome.{Outcome, refused, gave, unless}
+use Rattle.numbers.specs.Outcome.{gave, unless}
 use Rattle.numbers.proofs.Order.{no, le_left, leq_trans}
 use Rattle.numbers.proofs.FiniteLaws.{inside_finite}
 use Rattle.numbers.proofs.Given.{unless_given}

@@ -1,4 +1,6 @@
 // Angles: cosine and sine on 0 to 3.25, arccosine on -1 to 1, as ordered operations.
+#![tactic(auto)]
+
 ghost use Rattle.std.specs.Prelude.{◌≡◌};
 ghost use Rattle.numbers.specs.Refusals.{scalar_of};
 ghost use Rattle.angles.specs.Turns.{taken, cosine_at, sine_at, cosine_of, sine_of};

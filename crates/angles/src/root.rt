@@ -2,7 +2,7 @@ ghost use Rattle.std.specs.Prelude.{◌≡◌};
 ghost use Rattle.angles.specs.Root.{raise, lift, settle, heron, root_in, root_of};
 
 // A number scaled by powers of four, and what its root is multiplied by in the end.
-#[derive(Drop)]
+#[derive(Clone, Copy)]
 pub struct Scaled {
     pub square: f64,
     pub unit: f64,

@@ -1,6 +1,6 @@
 -- The lookup of a desired value and a weight at a frequency f (document 01, "Numbers that bound the work"). It uses the bands as
 -- given, not as adjusted.
-use Rattle.std.specs.Prelude.{ℕ, ◌-◌, min, Bool, not, get_or, Float}
+use Rattle.std.specs.Prelude.{ℕ, ◌-◌, min, not, get_or, Float}
 use Rattle.std.specs.Float.{nan}
 use Rattle.std.specs.Float.Ieee.{lt}
 use Rattle.numbers.specs.Floats.{clamp}

@@ -1,4 +1,6 @@
 // Bands, their values and the plan that holds them (types.rs and bands.rs of pm-remez).
+#![tactic(auto)]
+
 ghost use Rattle.std.specs.Prelude.{◌≡◌, ◌&&◌, ◌<◌, ◌≤◌};
 ghost use Rattle.numbers.specs.Loops.{every};
 ghost use Rattle.numbers.specs.Outcome.{unless, gave};
@@ -9,21 +11,21 @@ ghost use Rattle.bands.specs.Lookup.{many, band_of, lookup, value_at, desired_at
 use numbers::{Refusal, Verdict};
 
 // Symmetry of a filter's taps.
-#[derive(Drop)]
+#[derive(Clone, Copy)]
 pub enum Symmetry {
     Even,
     Odd,
 }
 
 // A desired value or a weight over a band: one number, or a line through the numbers at its two ends.
-#[derive(Drop)]
+#[derive(Clone, Copy)]
 pub enum Value {
     Constant(f64),
     Linear(f64, f64),
 }
 
 // A band, its edges in cycles per sample.
-#[derive(Drop)]
+#[derive(Clone, Copy)]
 pub struct Band {
     pub begin: f64,
     pub end: f64,
@@ -32,7 +34,7 @@ pub struct Band {
 }
 
 // A channel plan: the first `count` bands, in rising order.
-#[derive(Drop)]
+#[derive(Clone, Copy)]
 pub struct Plan {
     pub bands: [Band; 8],
     pub count: usize,

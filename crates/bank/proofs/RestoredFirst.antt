@@ -122,12 +122,12 @@ patched f p =
 
 -- where none was made, no byte depends on the points
 module _ (r : Request) (a b : List Float) where
-  abbrev unmadeWith : List Float → Fields
-  unmadeWith points = record { request = r; made = 0; flatness = zero64; points = points }
+  abbrev unmade_with : List Float → Fields
+  unmade_with points = record { request = r; made = 0; flatness = zero64; points = points }
 
-  words_unread : words_of (unmadeWith a) ≡ words_of (unmadeWith b)
+  words_unread : words_of (unmade_with a) ≡ words_of (unmade_with b)
   words_unread =
-      words_alike (unmadeWith a) (unmadeWith b)
+      words_alike (unmade_with a) (unmade_with b)
       (record {
         taps = refl;
         symmetry = refl;
@@ -141,9 +141,9 @@ module _ (r : Request) (a b : List Float) where
         points = refl;
       })
 
-  unread : image_of (unmadeWith a) ≡ image_of (unmadeWith b)
+  unread : image_of (unmade_with a) ≡ image_of (unmade_with b)
   unfolding image_of
-  unread = ap (λ w. bytes_for w (few_bands (unmadeWith b)) (few_points (unmadeWith b))) words_unread
+  unread = ap (λ w. bytes_for w (few_bands (unmade_with b)) (few_points (unmade_with b))) words_unread
 
 -- its image, restored into an empty slot, leaves the words that opening with the new plan leaves
 pub patched_opens : (f : Fields) (p : Plan) (i : Interpolation) → let r = (patched f p).request in

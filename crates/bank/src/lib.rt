@@ -1,4 +1,6 @@
 // A bank of 16 jobs in lent memory: open, step, read, save, restore, clear.
+#![tactic(auto)]
+
 mod calls;
 mod slot;
 mod words;
@@ -13,7 +15,7 @@ use numbers::{Refusal, Verdict};
 
 // What a call answers: of a read the weighted error, the flatness and the iterations, of a save how many bytes were written; zero where
 // there is nothing to tell.
-#[derive(Drop)]
+#[derive(Clone, Copy)]
 pub struct Answer {
     pub verdict: Verdict,
     pub error: f64,

@@ -9,7 +9,7 @@ use exchange::{Job, State};
 use numbers::Refusal;
 
 // What a slot's words are: all zero, or those of a job's fields and state, or neither.
-#[derive(Drop)]
+#[derive(Clone, Copy)]
 pub(crate) enum Kind {
     Empty,
     Broken,
@@ -17,7 +17,7 @@ pub(crate) enum Kind {
 }
 
 // The kind of a slot's words, and the fields and state that stand there. Whether they are a job is asked of the job.
-#[derive(Drop)]
+#[derive(Clone, Copy)]
 pub(crate) struct Content {
     pub(crate) kind: Kind,
     pub(crate) job: Job,

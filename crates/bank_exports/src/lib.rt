@@ -1,6 +1,8 @@
 // The bank's calls for C and whatever calls C. A slice is handed over as its address and its length. Each answers 0, or document 01's
 // number of the refusal; what a call tells beside that goes to the front of `report` and `counts`, which are refused with 15, before anything
 // else is looked at, where they have no room for it.
+#![tactic(auto)]
+
 ghost use Rattle.std.specs.Prelude.{◌≡◌, true, [], ◌≤◌, length};
 ghost use Rattle.bank.specs.Calls.{Call, told_by};
 ghost use Rattle.bank_exports.specs.Served.{request_from, served, read_for, save_for, reported, counted, iterations_told, bytes_told, Served};

@@ -1,4 +1,6 @@
 // Barycentric interpolation: weights, delta, abscissas and the response (barycentric.rs of pm-remez).
+#![tactic(auto)]
+
 ghost use Rattle.std.specs.Prelude.{◌≡◌, ◌<◌, length, get_or};
 ghost use Rattle.std.specs.Float.{nan};
 ghost use Rattle.barycentric.specs.Limits.{sized, alike, three_alike, three_finite};
@@ -15,7 +17,7 @@ pub use weights::compute_barycentric_weights;
 pub const POINTS: usize = 65;
 
 // The two sums whose quotient is a delta or a response.
-#[derive(Drop)]
+#[derive(Clone, Copy)]
 pub struct Sums {
     pub numer: f64,
     pub denom: f64,

@@ -1,5 +1,7 @@
 // Stored cases as the gate's programs replay them: words, whole numbers and lists of numbers by their bits (oracle/README.md has the
 // format). What cannot be read is told by `good`.
+#![tactic(auto)]
+
 mod plans;
 
 ghost use Rattle.std.specs.Prelude.{◌≡◌};
@@ -10,7 +12,7 @@ pub use plans::{Banded, Planned, band_at, plan_at, symmetry_of, written_at, writ
 use text::{Digits, Token};
 
 // How many there are, where they end, and whether they could be read.
-#[derive(Drop)]
+#[derive(Clone, Copy)]
 pub struct Span {
     pub count: usize,
     pub at: usize,

@@ -7,7 +7,7 @@ use bands::{Band, Plan, Symmetry, Value};
 use text::{Digits, Fraction, Token};
 
 // A band, where its line ends, and whether it could be read.
-#[derive(Drop)]
+#[derive(Clone, Copy)]
 pub struct Banded {
     pub band: Band,
     pub at: usize,
@@ -15,7 +15,7 @@ pub struct Banded {
 }
 
 // A plan, where it ends, and whether it could be read.
-#[derive(Drop)]
+#[derive(Clone, Copy)]
 pub struct Planned {
     pub plan: Plan,
     pub at: usize,

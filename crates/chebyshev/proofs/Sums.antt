@@ -40,23 +40,23 @@ module _ (m : ℕ) (v w : Float) (h : m ≤ 64) where
 
 -- every place after the turns: the sums, with the last turn and the scale, are the definition's
 module _ (a x b c : List Float) (n : Float) (p : length x ≤ 64) (hb : length b ≡ length x) (hc : length c ≡ length x) where
-  abbrev pub laneTurn : ℕ → ℕ → Pair → Pair
-  laneTurn k = clenshaw_step a (get_or x k nan)
+  abbrev pub lane_turn : ℕ → ℕ → Pair → Pair
+  lane_turn k = clenshaw_step a (get_or x k nan)
 
   abbrev pub last : Float
   last = get_or a (length a - 1) nan
 
-  abbrev pub afterTurns : List Pair
-  afterTurns = run (row laneTurn (length x) no_pair) (length a - 2) 0 (started (length x) last zero64 p)
+  abbrev pub after_turns : List Pair
+  after_turns = run (row lane_turn (length x) no_pair) (length a - 2) 0 (started (length x) last zero64 p)
 
-  place_ends : pairs b c ≡ afterTurns → (k : ℕ) → k < length x → pair (get_or b k nan) (get_or c k nan) ≡ run (laneTurn k) (length a - 2) 0 (pair last zero64)
+  place_ends : pairs b c ≡ after_turns → (k : ℕ) → k < length x → pair (get_or b k nan) (get_or c k nan) ≡ run (lane_turn k) (length a - 2) 0 (pair last zero64)
   place_ends e k q =
       sym (zip_get pair b c k nan nan no_pair (omega arith) (omega arith))
-      ∙ ap (λ l. get_or l k no_pair) (e ∙ lanes laneTurn (length x) no_pair (length a - 2) 0 (started (length x) last zero64 p) (started_length (length x) last zero64 p))
-      ∙ tab-get (λ k. run (laneTurn k) (length a - 2) 0 (get_or (started (length x) last zero64 p) k no_pair)) (length x) k no_pair q
-      ∙ ap (run (laneTurn k) (length a - 2) 0) (started_at (length x) last zero64 p k q)
+      ∙ ap (λ l. get_or l k no_pair) (e ∙ lanes lane_turn (length x) no_pair (length a - 2) 0 (started (length x) last zero64 p) (started_length (length x) last zero64 p))
+      ∙ tab-get (λ k. run (lane_turn k) (length a - 2) 0 (get_or (started (length x) last zero64 p) k no_pair)) (length x) k no_pair q
+      ∙ ap (run (lane_turn k) (length a - 2) 0) (started_at (length x) last zero64 p k q)
 
-  pub places_end : pairs b c ≡ afterTurns → n ≡ whole (length a - 1) → ended x (get_or a 0 nan) (two ⊘ n) b c ≡ summed a x
+  pub places_end : pairs b c ≡ after_turns → n ≡ whole (length a - 1) → ended x (get_or a 0 nan) (two ⊘ n) b c ≡ summed a x
   unfolding clenshaw
   places_end e w =
       tab-same (λ k. ((get_or x k nan ⊗ get_or b k nan ⊖ get_or c k nan) ⊕ get_or a 0 nan) ⊗ (two ⊘ n)) (λ k. scaled a (get_or x k nan)) (length x) 0

@@ -25,7 +25,7 @@ no_pair = pair nan nan
 abbrev pub pairs : List Float → List Float → List Pair
 pairs b c = zip_with pair b c
 
--- clenshawStep with the coefficient itself, and the same at every place
+-- clenshaw_step with the coefficient itself, and the same at every place
 abbrev pub turn : Float → Float → Pair → Pair
 turn x a s = pair ((two ⊗ x ⊗ s.b1 ⊖ s.b2) ⊕ a) s.b1
 

@@ -1,4 +1,6 @@
 // Chebyshev nodes and coefficients (chebyshev.rs of pm-remez).
+#![tactic(auto)]
+
 ghost use Rattle.std.specs.Prelude.{◌≡◌, ◌+◌, ◌≤◌, length};
 ghost use Rattle.numbers.specs.Outcome.{gather};
 ghost use Rattle.numbers.specs.Refusals.{verdict_of, Filled};
@@ -23,7 +25,7 @@ pub const LEAST_VALUES: usize = 2;
 pub const MOST_VALUES: usize = 64;
 
 // Clenshaw's two running numbers.
-#[derive(Drop)]
+#[derive(Clone, Copy)]
 pub struct Pair {
     pub b1: f64,
     pub b2: f64,

@@ -6,7 +6,7 @@ ghost use Rattle.colleague.specs.Balance.{row_norm, column_norm, raised, lowered
 use crate::Colleague;
 
 // The factor of a row and column, and the column's norm times its square.
-#[derive(Drop)]
+#[derive(Clone, Copy)]
 pub struct Scale {
     pub factor: f64,
     pub column: f64,
@@ -18,14 +18,14 @@ impl Scale {
 }
 
 // The norms of a row and of its column.
-#[derive(Drop)]
+#[derive(Clone, Copy)]
 struct Norms {
     row: f64,
     column: f64,
 }
 
 // What is done with a row: nothing, scaled, or balancing ended because the norm is no normal number.
-#[derive(Drop)]
+#[derive(Clone, Copy)]
 pub enum Step {
     Still,
     Moved,
@@ -33,14 +33,14 @@ pub enum Step {
 }
 
 // A pass over the rows.
-#[derive(Drop)]
+#[derive(Clone, Copy)]
 pub struct Passed {
     pub moved: bool,
     pub stopped: bool,
 }
 
 // How many passes were made, or that one more than 64 is needed.
-#[derive(Drop)]
+#[derive(Clone, Copy)]
 pub enum Passes {
     Made(u64),
     Over,

@@ -7,7 +7,7 @@ use crate::{Colleague, balance, built, matrix};
 use numbers::Refusal;
 
 // The rows of the matrix that was left in a lent one, and the passes; or why there is none.
-#[derive(Drop)]
+#[derive(Clone, Copy)]
 pub enum Held {
     Of(usize, u64),
     Refused(Refusal),

@@ -1,4 +1,6 @@
 // The colleague matrix of a proxy's derivative, balanced (extrema.rs of pm-remez).
+#![tactic(auto)]
+
 ghost use Rattle.std.specs.Prelude.{◌≡◌};
 ghost use Rattle.numbers.specs.Refusals.{Answers};
 ghost use Rattle.colleague.specs.Answer.{no_rows, refused_by, colleague_for};
@@ -12,13 +14,13 @@ mod matrix;
 use numbers::{Count, Refusal, Verdict};
 
 // A row of the matrix, zero beyond its columns.
-#[derive(Drop)]
+#[derive(Clone, Copy)]
 pub struct Row {
     pub entries: [f64; 15],
 }
 
 // A balanced matrix of `size` rows and columns, zero beyond them, and the passes that balancing made.
-#[derive(Drop)]
+#[derive(Clone, Copy)]
 pub struct Colleague {
     pub rows: [Row; 15],
     pub size: usize,
@@ -35,7 +37,7 @@ impl Colleague {
 }
 
 // A matrix, or one of no rows and why.
-#[derive(Drop)]
+#[derive(Clone, Copy)]
 pub struct Answer {
     pub matrix: Colleague,
     pub verdict: Verdict,

@@ -4,7 +4,7 @@ use cases::{past, plan_at, symmetry_of, whole_at, written_at};
 use fields::{Accepted, Request};
 
 // What is told of a request beside its design.
-#[derive(Drop)]
+#[derive(Clone, Copy)]
 pub(crate) struct Title {
     pub(crate) taps: usize,
     pub(crate) points: usize,
@@ -15,7 +15,7 @@ pub(crate) struct Title {
 }
 
 // A request, where its lines end, and whether they could be read.
-#[derive(Drop)]
+#[derive(Clone, Copy)]
 pub(crate) struct Asked {
     pub(crate) accepted: Accepted,
     pub(crate) title: Title,

@@ -4,7 +4,7 @@ use crate::running::Run;
 use cases::{are_finite, are_same, is_same, list_into, past, whole_at, written_at};
 use text::Token;
 
-#[derive(Drop)]
+#[derive(Clone, Copy)]
 pub(crate) enum Judged {
     // None of the following, or not to be read.
     Wrong,
@@ -62,7 +62,7 @@ fn failed(s: &[u8], at: usize, n: u64) -> Judged {
 }
 
 // pm-remez's design, where its lists could be read.
-#[derive(Drop)]
+#[derive(Clone, Copy)]
 struct Said {
     iterations: usize,
     flatness: f64,

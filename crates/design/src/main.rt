@@ -1,4 +1,6 @@
 // Designs the filters that standard input asks for. A request followed by an answer of pm-remez is compared with it, bit for bit.
+#![tactic(auto)]
+
 mod asking;
 mod judging;
 mod page;

@@ -4,7 +4,7 @@ use fields::{Accepted, Request};
 use numbers::Verdict;
 
 // What came of a request, beside its taps and frequencies.
-#[derive(Drop)]
+#[derive(Clone, Copy)]
 pub(crate) struct Run {
     // The number of its refusal, 0 where there is none.
     pub(crate) refusal: u64,

@@ -10,7 +10,7 @@ pub(crate) fn say_whole(n: u64) {
 }
 
 // A digit, and what is left below 1.
-#[derive(Drop)]
+#[derive(Clone, Copy)]
 struct Peeled {
     digit: u64,
     rest: f64,

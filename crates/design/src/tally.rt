@@ -4,7 +4,7 @@ use crate::judging::Judged;
 use crate::running::Run;
 use crate::saying::{say, say_whole};
 
-#[derive(Drop)]
+#[derive(Clone, Copy)]
 pub(crate) struct Tally {
     pub(crate) asked: u64,
     pub(crate) same: u64,

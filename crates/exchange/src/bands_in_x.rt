@@ -6,7 +6,7 @@ use fir_types::{Adjusted, Edges, Interval};
 use numbers::{Scalar, Verdict};
 
 // A band in x, and whether its edges are angles.
-#[derive(Drop)]
+#[derive(Clone, Copy)]
 struct Turned {
     band: Interval,
     verdict: Verdict,

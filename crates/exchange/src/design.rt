@@ -11,7 +11,7 @@ use fields::{Fields, Interpolant, Request};
 use numbers::{Refusal, Scalar, Verdict};
 
 // What a design tells beside its taps and frequencies.
-#[derive(Drop)]
+#[derive(Clone, Copy)]
 pub struct Report {
     pub error: f64,
     pub flatness: f64,

@@ -7,7 +7,7 @@ use numbers::{Refusal, Scalar};
 use pruning::Candidate;
 
 // The largest and the smallest magnitude.
-#[derive(Drop)]
+#[derive(Clone, Copy)]
 struct Spread {
     most: f64,
     least: f64,

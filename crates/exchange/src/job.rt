@@ -13,7 +13,7 @@ use fields::{Fields, Interpolated, Request};
 use numbers::{Refusal, Verdict};
 
 // Where a job stands.
-#[derive(Drop)]
+#[derive(Clone, Copy)]
 pub enum State {
     Running,
     Finished,
@@ -21,14 +21,14 @@ pub enum State {
 }
 
 // A job: what its image holds, and where it stands.
-#[derive(Drop)]
+#[derive(Clone, Copy)]
 pub struct Job {
     pub fields: Fields,
     pub state: State,
 }
 
 // A job before its first exchange, and whether it is accepted.
-#[derive(Drop)]
+#[derive(Clone, Copy)]
 pub struct Opened {
     pub job: Job,
     pub verdict: Verdict,

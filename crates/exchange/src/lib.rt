@@ -1,4 +1,6 @@
 // The exchange (the loop of lib.rs of pm-remez) as a job that goes into a step and comes back as the next job, and the finished design.
+#![tactic(auto)]
+
 mod bands_in_x;
 mod design;
 mod flatness;

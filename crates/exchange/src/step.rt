@@ -18,14 +18,14 @@ use pruning::Candidate;
 use subdivision::Intervals;
 
 // The next job, and whether the call was refused or its exchange failed.
-#[derive(Drop)]
+#[derive(Clone, Copy)]
 pub struct Stepped {
     pub job: Job,
     pub verdict: Verdict,
 }
 
 // The fields that an exchange leaves, or why there are none.
-#[derive(Drop)]
+#[derive(Clone, Copy)]
 struct Moved {
     fields: Fields,
     verdict: Verdict,

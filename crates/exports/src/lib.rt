@@ -4,6 +4,8 @@
 // number of the refusal, and writes its numbers to the front of `out`: a single number to its first place, and nothing where it
 // is refused. Where the leaf decides how many numbers there are, `counts` says it. A slice is handed over as its address and its
 // length.
+#![tactic(auto)]
+
 ghost use Rattle.std.specs.Prelude.{◌≡◌};
 ghost use Rattle.numbers.specs.Refusals.{scalar_of};
 ghost use Rattle.angles.specs.Turns.{cosine_of, sine_of};

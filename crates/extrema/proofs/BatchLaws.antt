@@ -79,26 +79,26 @@ joined-own q =
 
 -- ---- what an error at a place tells and asks for, all else alike
 module _ (c : Curve) where
-  abbrev responseAt : Float → Float
-  responseAt x0 = response_of x0 c.x c.weights c.abscissas
+  abbrev response_at : Float → Float
+  response_at x0 = response_of x0 c.x c.weights c.abscissas
 
-  abbrev errorAlone : Float → Outcome Float
-  errorAlone x0 = error_from c.plan c.symmetry c.odd x0 (responseAt x0)
+  abbrev error_alone : Float → Outcome Float
+  error_alone x0 = error_from c.plan c.symmetry c.odd x0 (response_at x0)
 
   record Alone (x0 e : Float) : Type 0 where
     alike : three_alike (length c.x) (length c.weights) (length c.abscissas) ≡ true
     given : three_finite c.x c.weights c.abscissas ≡ true
     place : finite x0 ≡ true
-    response : finite (responseAt x0) ≡ true
-    error : errorAlone x0 ≡ gave e
+    response : finite (response_at x0) ≡ true
+    error : error_alone x0 ≡ gave e
 
-  responses_at : (places : List Float) (k : ℕ) → k < length places → get_or (responses_of places c.x c.weights c.abscissas) k nan ≡ responseAt (get_or places k nan)
+  responses_at : (places : List Float) (k : ℕ) → k < length places → get_or (responses_of places c.x c.weights c.abscissas) k nan ≡ response_at (get_or places k nan)
   unfolding responses_of
-  responses_at places k h = tab-get (λ i. responseAt (get_or places i nan)) (length places) k nan h
+  responses_at places k h = tab-get (λ i. response_at (get_or places i nan)) (length places) k nan h
 
   length_responses : (places : List Float) → length (responses_of places c.x c.weights c.abscissas) ≡ length places
   unfolding responses_of
-  length_responses places = length-tab (λ i. responseAt (get_or places i nan)) (length places) 0
+  length_responses places = length-tab (λ i. response_at (get_or places i nan)) (length places) 0
 
   alone_at : (places e : List Float) → errors_for c places ≡ gave e → (k : ℕ) → k < length places → Alone (get_or places k nan) (get_or e k nan)
   unfolding errors_for
@@ -108,7 +108,7 @@ module _ (c : Curve) where
       let r = responses_given places c.x c.weights c.abscissas m b.value b.given in
       let alike = three_alike (length c.x) (length c.weights) (length c.abscissas) in
       let three = three_finite c.x c.weights c.abscissas in
-      let at : get_or b.value k nan ≡ responseAt (get_or places k nan) = ap (λ l. get_or l k nan) r.answer.are ∙ responses_at places k h in
+      let at : get_or b.value k nan ≡ response_at (get_or places k nan) = ap (λ l. get_or l k nan) r.answer.are ∙ responses_at places k h in
       let long : length b.value ≡ m = ap length r.answer.are ∙ length_responses places in
       let g : ℕ → Outcome Float = λ i. error_from c.plan c.symmetry c.odd (get_or places i nan) (get_or b.value i nan) in
       let z : g (0 + k) ≡ gave (get_or e k nan) = gather-at g m 0 e k nan b.rest h in

@@ -1,4 +1,6 @@
 // The extrema of the weighted error that an exchange moves its points to (extrema.rs and barycentric.rs of pm-remez).
+#![tactic(auto)]
+
 ghost use Rattle.std.specs.Prelude.{◌≡◌, [], ◌+◌, ◌*◌, ◌/◌, ◌≤◌, length, take};
 ghost use Rattle.numbers.specs.Outcome.{bind, gave, sweep};
 ghost use Rattle.numbers.specs.Refusals.{Answers};
@@ -21,14 +23,14 @@ use pruning::Candidate;
 use subdivision::Intervals;
 
 // The candidates that are kept, in rising x.
-#[derive(Drop)]
+#[derive(Clone, Copy)]
 pub struct Kept {
     pub list: [Candidate; 65],
     pub count: usize,
 }
 
 // What is kept, or nothing and why.
-#[derive(Drop)]
+#[derive(Clone, Copy)]
 pub struct Extrema {
     pub kept: Kept,
     pub verdict: Verdict,

@@ -11,18 +11,18 @@ use Rattle.fields.specs.declared.request.Request.{Request}
 use Rattle.fields.specs.Interpolant.{Places, Interpolation, interpolation, falling, desired_each, weight_each, interpolated}
 
 module _ (r : Request) (p : Places) where
-  abbrev pub withDelta : List Float → List Float → List Float → Float → Outcome Interpolation
-  withDelta w d v delta = bind (abscissas_for delta d v (length p.x)) (λ y. gave (interpolation p w y delta))
+  abbrev pub with_delta : List Float → List Float → List Float → Float → Outcome Interpolation
+  with_delta w d v delta = bind (abscissas_for delta d v (length p.x)) (λ y. gave (interpolation p w y delta))
 
-  abbrev pub withErrors : List Float → List Float → List Float → Outcome Interpolation
-  withErrors w d v = bind (delta_for w d v) (withDelta w d v)
+  abbrev pub with_errors : List Float → List Float → List Float → Outcome Interpolation
+  with_errors w d v = bind (delta_for w d v) (with_delta w d v)
 
-  abbrev pub withDesired : List Float → List Float → Outcome Interpolation
-  withDesired w d = bind (weight_each r p.freqs) (withErrors w d)
+  abbrev pub with_desired : List Float → List Float → Outcome Interpolation
+  with_desired w d = bind (weight_each r p.freqs) (with_errors w d)
 
-  abbrev pub withWeights : List Float → Outcome Interpolation
-  withWeights w = bind (desired_each r p.freqs) (withDesired w)
+  abbrev pub with_weights : List Float → Outcome Interpolation
+  with_weights w = bind (desired_each r p.freqs) (with_desired w)
 
-  pub chain : interpolated r p ≡ unless (falling p.x) 9 (bind (weights_for p.x (length p.x)) withWeights)
+  pub chain : interpolated r p ≡ unless (falling p.x) 9 (bind (weights_for p.x (length p.x)) with_weights)
   unfolding interpolated
   chain = refl

@@ -37,7 +37,7 @@ use Rattle.fields.specs.Interpolant.{Places, Interpolation, places, interpolatio
 use Rattle.fields.specs.Accept.{counts_hold, held_points, places_of, accept_of}
 use Rattle.fields.specs.Facts.{Placed, Interpolates, AcceptedFacts}
 use Rattle.fields.proofs.RequestLaws.{points_least, points_most, degree_least, degree_most, accepted_range}
-use Rattle.fields.proofs.Chain.{withDelta, withErrors, withDesired, withWeights, chain}
+use Rattle.fields.proofs.Chain.{with_delta, with_errors, with_desired, with_weights, chain}
 
 -- ---- what g gives of each entry
 module _ (g : Float → Outcome Float) (l m : List Float) (given : each g l ≡ gave m) where
@@ -105,11 +105,11 @@ interpolation_facts r n p w d v y delta a falls e f g h =
 
 pub interpolates : (r : Request) (n : ℕ) (p : Places) (i : Interpolation) → Placed n p → interpolated r p ≡ gave i → Interpolates n i
 interpolates r n p i a e =
-    let t = unless_given (falling p.x) 9 (bind (weights_for p.x (length p.x)) (withWeights r p)) (sym (chain r p) ∙ e) in
-    let w = bind_given (weights_for p.x (length p.x)) (withWeights r p) t.rest in
-    let d = bind_given (desired_each r p.freqs) (withDesired r p w.value) w.rest in
-    let v = bind_given (weight_each r p.freqs) (withErrors r p w.value d.value) d.rest in
-    let q = bind_given (delta_for w.value d.value v.value) (withDelta r p w.value d.value v.value) v.rest in
+    let t = unless_given (falling p.x) 9 (bind (weights_for p.x (length p.x)) (with_weights r p)) (sym (chain r p) ∙ e) in
+    let w = bind_given (weights_for p.x (length p.x)) (with_weights r p) t.rest in
+    let d = bind_given (desired_each r p.freqs) (with_desired r p w.value) w.rest in
+    let v = bind_given (weight_each r p.freqs) (with_errors r p w.value d.value) d.rest in
+    let q = bind_given (delta_for w.value d.value v.value) (with_delta r p w.value d.value v.value) v.rest in
     let y = bind_given (abscissas_for q.value d.value v.value (length p.x)) (λ y. gave (interpolation p w.value y q.value)) q.rest in
     rw (← gave_same y.rest)
     (interpolation_facts r n p w.value d.value v.value y.value q.value a t.test w.given d.given q.given y.given)

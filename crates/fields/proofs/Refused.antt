@@ -36,7 +36,7 @@ use Rattle.fields.specs.Accept.{counts_hold, held_points, places_of, accept_of}
 use Rattle.fields.specs.Facts.{AcceptRefusal}
 use Rattle.fields.specs.Facts as number
 use Rattle.fields.proofs.RequestLaws.{functions_range, taps_hold, points_least, points_most, accepted_range}
-use Rattle.fields.proofs.Chain.{withDelta, withErrors, withDesired, withWeights, chain}
+use Rattle.fields.proofs.Chain.{with_delta, with_errors, with_desired, with_weights, chain}
 use Rattle.fields.proofs.Facts.{each_many, request_few, places_placed}
 
 each_refuses : {P : ℕ → Type 0} (g : Float → Outcome Float) (l : List Float) → ((x : Float) → Refuses P (g x)) → Refuses P (each g l)
@@ -60,26 +60,26 @@ given_places_refuse points =
 
 -- ---- as many frequencies as points, 2 to 65 of them
 module _ (r : Request) (n : ℕ) (p : Places) (least : 2 ≤ n) (most : n ≤ 65) (freqs_many : length p.freqs ≡ n) (x_many : length p.x ≡ n) where
-  delta_then : (w d v : List Float) → length w ≡ n → length d ≡ n → length v ≡ n → Refuses (Only 9) (withErrors r p w d v)
+  delta_then : (w d v : List Float) → length w ≡ n → length d ≡ n → length v ≡ n → Refuses (Only 9) (with_errors r p w d v)
   delta_then w d v a b c =
-      refuses_bind (delta_for w d v) (withDelta r p w d v) (delta_refuses w d v (omega (arith, a)) (omega (arith, a)) (b ∙ sym a) (c ∙ sym a))
+      refuses_bind (delta_for w d v) (with_delta r p w d v) (delta_refuses w d v (omega (arith, a)) (omega (arith, a)) (b ∙ sym a) (c ∙ sym a))
       (λ delta e. refuses_bind (abscissas_for delta d v (length p.x)) (λ y. gave (interpolation p w y delta))
       (abscissas_refuse delta d v (length p.x) (omega (arith, b)) (omega (arith, b)) (c ∙ sym b) (omega (arith, b, x_many)))
       (λ y k. refuses_gave (interpolation p w y delta)))
 
-  values_then : (w : List Float) → length w ≡ n → Refuses (Only 9) (withWeights r p w)
+  values_then : (w : List Float) → length w ≡ n → Refuses (Only 9) (with_weights r p w)
   values_then w a =
       let desired = adjusted_desired r.plan r.symmetry (odd_taps r) in
       let weight = adjusted_weight r.plan r.symmetry (odd_taps r) in
-      refuses_bind (desired_each r p.freqs) (withDesired r p w) (each_refuses desired p.freqs (desired_refuses r.plan r.symmetry (odd_taps r)))
-      (λ d e. refuses_bind (weight_each r p.freqs) (withErrors r p w d) (each_refuses weight p.freqs (weight_refuses r.plan r.symmetry (odd_taps r)))
+      refuses_bind (desired_each r p.freqs) (with_desired r p w) (each_refuses desired p.freqs (desired_refuses r.plan r.symmetry (odd_taps r)))
+      (λ d e. refuses_bind (weight_each r p.freqs) (with_errors r p w d) (each_refuses weight p.freqs (weight_refuses r.plan r.symmetry (odd_taps r)))
       (λ v k. delta_then w d v a (each_many desired p.freqs d e ∙ freqs_many) (each_many weight p.freqs v k ∙ freqs_many)))
 
   pub interpolated_refuses : Refuses (Only 9) (interpolated r p)
   interpolated_refuses =
       rw (chain r p)
-      (refuses_unless (falling p.x) 9 (bind (weights_for p.x (length p.x)) (withWeights r p)) (λ t. refl)
-      (λ t. refuses_bind (weights_for p.x (length p.x)) (withWeights r p)
+      (refuses_unless (falling p.x) 9 (bind (weights_for p.x (length p.x)) (with_weights r p)) (λ t. refl)
+      (λ t. refuses_bind (weights_for p.x (length p.x)) (with_weights r p)
       (weights_refuse p.x (length p.x) (omega (arith, x_many)) (omega (arith, x_many)) (le_refl (length p.x)))
       (λ w e. values_then w (ap length (weights_given p.x (length p.x) w e).are ∙ weights-length p.x ∙ x_many))))
 

@@ -12,7 +12,7 @@ use fir_types::Edges;
 use numbers::{Refusal, Scalar, Verdict};
 
 // What a job's image holds. With no exchange made it holds no points.
-#[derive(Drop)]
+#[derive(Clone, Copy)]
 pub struct Fields {
     pub request: Request,
     pub made: usize,

@@ -10,7 +10,7 @@ use fir_types::Edges;
 use numbers::{Refusal, Scalar, Verdict};
 
 // What is worked out from a request and its points: `count` frequencies in radians, points, weights and abscissas, zero beyond; delta.
-#[derive(Drop)]
+#[derive(Clone, Copy)]
 pub struct Interpolant {
     pub freqs: [f64; 65],
     pub points: [f64; 65],
@@ -21,7 +21,7 @@ pub struct Interpolant {
 }
 
 // An interpolant, or zeros and why.
-#[derive(Drop)]
+#[derive(Clone, Copy)]
 pub struct Interpolated {
     pub interpolant: Interpolant,
     pub verdict: Verdict,

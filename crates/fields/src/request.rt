@@ -8,7 +8,7 @@ use fir_types::{Adjusted, Edges, Interval};
 use numbers::{Refusal, Verdict};
 
 // What a filter is designed from.
-#[derive(Drop)]
+#[derive(Clone, Copy)]
 pub struct Request {
     pub taps: usize,
     pub symmetry: Symmetry,
@@ -19,7 +19,7 @@ pub struct Request {
 }
 
 // A request as it was given, and whether it is accepted.
-#[derive(Drop)]
+#[derive(Clone, Copy)]
 pub struct Accepted {
     pub request: Request,
     pub verdict: Verdict,

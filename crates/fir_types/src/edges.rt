@@ -7,21 +7,21 @@ use bands::{Band, Plan, Symmetry};
 use numbers::{Refusal, Verdict};
 
 // A band's edges alone.
-#[derive(Drop)]
+#[derive(Clone, Copy)]
 pub struct Interval {
     pub begin: f64,
     pub end: f64,
 }
 
 // Up to 8 intervals.
-#[derive(Drop)]
+#[derive(Clone, Copy)]
 pub struct Edges {
     pub list: [Interval; 8],
     pub count: usize,
 }
 
 // The adjusted bands, or none and why.
-#[derive(Drop)]
+#[derive(Clone, Copy)]
 pub struct Adjusted {
     pub edges: Edges,
     pub verdict: Verdict,

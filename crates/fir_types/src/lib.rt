@@ -1,4 +1,6 @@
 // The four types of filter (fir_types.rs of pm-remez): response check, edge adjustment, adjusted values, taps.
+#![tactic(auto)]
+
 mod adjusted;
 mod edges;
 mod kinds;

@@ -1,4 +1,6 @@
 // The image of a job, byte for byte (document 01, "The image").
+#![tactic(auto)]
+
 mod bytes;
 mod layout;
 mod reading;
@@ -12,7 +14,7 @@ use fields::Fields;
 use numbers::{Count, Refusal, Verdict};
 
 // The fields of an image, or fields of zeros and 14.
-#[derive(Drop)]
+#[derive(Clone, Copy)]
 pub struct Decoded {
     pub fields: Fields,
     pub verdict: Verdict,

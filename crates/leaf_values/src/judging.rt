@@ -4,7 +4,7 @@ use cases::{Span, are_finite, are_same, is_same};
 use numbers::{Scalar, Verdict};
 
 // What was found at a case: where it ends, whether it could be read, and whether the leaf agrees.
-#[derive(Drop)]
+#[derive(Clone, Copy)]
 pub(crate) struct Found {
     pub(crate) at: usize,
     pub(crate) good: bool,

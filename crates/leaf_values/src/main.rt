@@ -1,4 +1,6 @@
 // Runs the leaves on the stored list of cases and compares them, bit for bit, with what pm-remez answered.
+#![tactic(auto)]
+
 mod filters;
 mod interpolation;
 mod judging;
@@ -91,7 +93,7 @@ fn judged_case(s: &[u8], from: usize, to: usize) -> Found {
 }
 
 // How many cases of the leaf `name` there are, and how many of them agree.
-#[derive(Drop)]
+#[derive(Clone, Copy)]
 struct Tally {
     cases: u64,
     agree: u64,

@@ -3,7 +3,7 @@ use bands::Symmetry;
 use cases::{Planned, past, plan_at, symmetry_of, whole_at};
 
 // A filter's taps, symmetry and plan.
-#[derive(Drop)]
+#[derive(Clone, Copy)]
 pub(crate) struct Filter {
     pub(crate) odd: bool,
     pub(crate) symmetry: Symmetry,

@@ -1,13 +1,11 @@
 -- Chains of lt, le and eq; clamping. Assumes nothing.
-use Prim.Native.Nat.{ℕ, zero, suc, ◌+◌, ◌*◌, ◌<◌, ◌≤◌}
-use mathlib.Core.Path.{◌≡◌, refl, sym, ap, ◌∙◌, subst}
+use Prim.Native.Nat.{ℕ, ◌*◌}
+use mathlib.Core.Path.{◌≡◌, refl, sym, ◌∙◌}
 use mathlib.Core.Logic.{◌⊎◌, inl, inr}
-use mathlib.Core.Bool.{Bool, true, false, not, ◌&&◌, ◌||◌, beq, cond}
+use mathlib.Core.Bool.{Bool, true, false, ◌||◌, beq, cond}
 use borrow.Author.Tests.{eqb-true, eq-eqb}
-use lib.Dec.{T, ltb, eqb}
-use lib.IntN.{ℤ, pos, negsuc}
-use lib.Ieee.{Float, nan, inf, fin, Format, binary64, up, down, level, lt, le, eq, is_nan, of_bits, neg, fits}
-use lib.Ieee.Scale.{finite}
+use lib.Dec.{eqb}
+use lib.Ieee.{Float, nan, inf, fin, up, down, level, lt, le, eq, is_nan}
 use Rattle.numbers.proofs.Order.{no, and_1, and_2, or_true, not-lt, le_not_lt, le_left, le_right, lt_left, lt_right, leq_trans, le_antisym, lt-le, lt_irr}
 use Rattle.numbers.specs.Floats.{Inside, clamp}
 

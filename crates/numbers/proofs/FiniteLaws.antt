@@ -1,6 +1,6 @@
 -- The test for a finite number, and what it rules out. Assumes nothing.
 use mathlib.Core.Path.{◌≡◌, refl, sym}
-use mathlib.Core.Bool.{Bool, true, false, ◌&&◌, cond, not, true≢false}
+use mathlib.Core.Bool.{Bool, true, false, ◌&&◌, cond}
 use Prim.Native.Nat.{ℕ, zero, suc, ◌+◌, ◌<◌, ◌≤◌}
 use mathlib.Core.List.{List, [], ◌∷◌}
 use native.Mathlib.Nat.{not-suc-le-zero, le_of_suc-le-suc, zero-add}
@@ -9,7 +9,7 @@ use lib.ListN.{length, get_or, drop, drop_of_length-le}
 use lib.Seq.{drop-cons}
 use native.Mathlib.Omega.{arith}
 use borrow.Author.Tests.{ne_eqb}
-use lib.Dec.{T, eqb}
+use lib.Dec.{eqb}
 use lib.Ieee.{Float, nan, inf, fin, binary64, sub, div, of_bits, lt, le, eq, neg, is_nan}
 use lib.Ieee.Scale.{finite}
 use Rattle.numbers.specs.Floats.{zero64, one64, fault_of, all_finite, Inside}

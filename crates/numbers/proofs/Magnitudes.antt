@@ -1,22 +1,19 @@
 -- The magnitude as a program works it out, if x <= 0.0 { 0.0 - x } else { x }, is the number without its sign. Assumes nothing.
-use Prim.Native.Nat.{ℕ, zero, suc, ◌+◌, ◌-◌, ◌*◌, ◌<◌, ◌≤◌, zero-le}
-use mathlib.Core.Path.{◌≡◌, refl, sym, ap, ◌∙◌, subst}
+use Prim.Native.Nat.{ℕ, zero, suc, ◌*◌, ◌<◌}
+use mathlib.Core.Path.{◌≡◌, refl, sym, ap, ◌∙◌}
 use mathlib.Core.Logic.{◌⊎◌, inl, inr}
-use mathlib.Core.Bool.{Bool, true, false, not, beq, ◌&&◌, ◌||◌, cond}
-use mathlib.Core.List.{List, [], ◌∷◌, map}
-use native.Mathlib.Nat.{zero-lt-suc, mul-pos, zero-mul, mul-one, le_trans, le_of_eq, lt_of_le_of_lt}
-use native.Mathlib.Omega.{arith}
-use borrow.Author.Tests.{eq-eqb, lt-ltb, le-ltb, ltb-true, ltb-false}
-use lib.Dec.{T, ltb, eqb, eqb-suc-zero}
-use lib.IntN.{ℤ, pos, negsuc}
-use lib.Ieee.{level, Float, nan, inf, fin, Format, binary64, up, down, lt, le, eq, is_nan, of_bits, add, sub, neg, sum, fits}
-use lib.Ieee.Fits.{up_pos, down_pos, neg-fits}
+use mathlib.Core.Bool.{Bool, true, false, beq, ◌&&◌, ◌||◌, cond}
+use native.Mathlib.Nat.{zero-lt-suc, mul-pos, zero-mul, le_of_eq, lt_of_le_of_lt}
+use borrow.Author.Tests.{eq-eqb, lt-ltb}
+use lib.Dec.{T, eqb, eqb-suc-zero}
+use lib.IntN.{ℤ}
+use lib.Ieee.{level, Float, nan, inf, fin, Format, binary64, up, down, lt, le, eq, is_nan, of_bits, add, sub, neg, fits}
+use lib.Ieee.Fits.{up_pos, neg-fits}
 use lib.Ieee.Scale.{finite}
-use lib.Ieee.Positive.{first_pos}
-use Rattle.numbers.proofs.Order.{not_negative, round_signed, or_false, no, ne_zero, lt_left, lt_right, lt-le, not-lt, le_not_lt, le_left, le_right, leq_trans, le_antisym}
+use Rattle.numbers.proofs.Order.{not_negative, no, ne_zero, lt_left, not-lt}
 use Rattle.numbers.proofs.Value.{zero_exp}
-use Rattle.numbers.proofs.Zero.{+0, -0, zero64_is, +0add, sub_self}
-use Rattle.numbers.proofs.Chains.{lt_not_le, lt-not_eq, lt-le_trans, eq→le, eq_sym}
+use Rattle.numbers.proofs.Zero.{+0, -0, +0add, sub_self}
+use Rattle.numbers.proofs.Chains.{lt_not_le, lt-not_eq}
 use Rattle.numbers.specs.Floats.{is_zero, magnitude_of, sign, zero64}
 
 -- as the program has it

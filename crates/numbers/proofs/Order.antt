@@ -1,19 +1,18 @@
 -- The order of numbers, as the equations that a branch hands over: lt and le are transitive and antisymmetric, and where
 -- no NaN is about one of them holds; two values that fit and are equal, and no zeros, are one value. Assumes nothing.
-use Prim.Native.Nat.{ℕ, zero, suc, pred, ◌+◌, ◌-◌, ◌*◌, ◌^◌, ◌%◌, ◌<◌, ◌≤◌, zero-le}
+use Prim.Native.Nat.{ℕ, zero, suc, pred, ◌+◌, ◌*◌, ◌^◌, ◌%◌, ◌<◌, ◌≤◌, zero-le}
 use mathlib.Core.Path.{◌≡◌, refl, sym, ap, ◌∙◌}
-use mathlib.Core.Bool.{Bool, true, false, not, ◌&&◌, ◌||◌, beq, cond, true≢false}
-use native.Mathlib.Nat.{pow-suc, mul_assoc, mul-one, mul_right_comm, mul-pos, mul-lt-mul_of_pos_right, lt_of_mul-lt-mul_right, lt_of_lt_of_le, lt_of_le_of_lt, le_of_eq, mul-le-mul_right, le_trans, le_of_lt, zero-mul, le_of_mul-le-mul_right, eq-or-lt_of_le, lt_irrefl, zero-lt-suc}
+use mathlib.Core.Bool.{Bool, true, false, ◌&&◌, ◌||◌, beq, cond, true≢false}
+use native.Mathlib.Nat.{pow-suc, mul_assoc, mul-one, mul_right_comm, mul-pos, mul-lt-mul_of_pos_right, lt_of_mul-lt-mul_right, lt_of_lt_of_le, lt_of_le_of_lt, le_of_eq, mul-le-mul_right, le_trans, le_of_lt, zero-mul, eq-or-lt_of_le, lt_irrefl, zero-lt-suc}
 use mathlib.Core.Logic.{inl, inr}
 use native.Mathlib.Omega.{arith}
-use borrow.Author.Tests.{ltb-true, ltb-false, lt-ltb, le-ltb, eqb-true, eq-eqb, ne_eqb, eqb-false}
+use borrow.Author.Tests.{ltb-true, ltb-false, lt-ltb, le-ltb, eqb-true, eq-eqb, ne_eqb}
 use lib.Dec.{T, ltb, leb, eqb, eqb→eq}
 use lib.Pow.{pow-add}
 use lib.IntN.{ℤ, pos, negsuc}
-use lib.Ieee.{Float, nan, inf, fin, Format, binary64, up, down, below, level, lt, le, eq, is_nan, odd, units, round, low, emax, prec, of_bits, sub, add, sum, neg, fits}
-use lib.Ieee.Fits.{down_pos, up_pos, round_is, and_l, and_r}
+use lib.Ieee.{Float, nan, inf, fin, Format, up, down, below, level, lt, le, eq, is_nan, odd, units, round, low, emax, prec, of_bits, fits}
+use lib.Ieee.Fits.{down_pos, up_pos, round_is, and_l}
 use lib.Ieee.Positive.{through, first_pos}
-use lib.Ieee.Scale.{finite}
 use Rattle.numbers.specs.Floats.{is_zero, sign, zero64}
 
 pub no : {A : Type 0} → false ≡ true → A

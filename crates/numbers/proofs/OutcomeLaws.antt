@@ -2,7 +2,6 @@
 -- that stops at the first refusal. `chains` is the ruleset for `search`. Assumes nothing.
 use Prim.Native.Nat.{ℕ, suc, ◌+◌, ◌-◌, ◌<◌, ◌≤◌}
 use mathlib.Core.Path.{◌≡◌, refl, sym, ap, ◌∙◌}
-use mathlib.Core.Bool.{Bool, true, false}
 use mathlib.Core.List.{List, [], ◌∷◌, ◌++◌, append_assoc, append-nil}
 use native.Mathlib.Omega.{arith}
 use native.Mathlib.Numerals.{add-one}
@@ -18,7 +17,7 @@ use Rattle.numbers.specs.declared.Verdict.{Verdict}
 use Rattle.numbers.specs.declared.Verdict.TheVariants as verdict
 use Rattle.numbers.specs.declared.Count.{Count}
 use Rattle.numbers.specs.declared.Count.TheVariants as count
-use Rattle.numbers.specs.Outcome.{Outcome, refused, gave, bind, unless, sweep, gather}
+use Rattle.numbers.specs.Outcome.{Outcome, refused, gave, bind, sweep, gather}
 use Rattle.numbers.specs.Refusals.{refusal_number, scalar_of, verdict_of, count_of, few, Filled, Wrote, Answers}
 
 -- ---- a return: what was given so far, and what follows; or the refusal

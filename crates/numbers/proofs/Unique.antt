@@ -1,5 +1,5 @@
 -- No second answer fits: an answer is settled by its outcome, as a refusal is by its number. So a contract
--- `scalarOf r ≡ o`, `Filled o n r w w'`, `Wrote o r w w'` or `Answers none o v a` has one answer, and one that says `r ≡ o` of a plain value has one by itself.
+-- `scalar_of r ≡ o`, `Filled o n r w w'`, `Wrote o r w w'` or `Answers none o v a` has one answer, and one that says `r ≡ o` of a plain value has one by itself.
 -- Assumes nothing.
 use Prim.Native.Nat.{ℕ, ◌≤◌}
 use mathlib.Core.Path.{◌≡◌, refl, sym, ap, ◌∙◌}

@@ -1,20 +1,20 @@
 -- A difference of two numbers from 0 up, a quotient of at most one, and the two together, (most - least) / most: from
 -- 0 to 1, the sign clear. Assumes nothing.
-use Prim.Native.Nat.{ℕ, zero, suc, ◌+◌, ◌-◌, ◌*◌, ◌^◌, ◌%◌, ◌/◌, ◌<◌, ◌≤◌, zero-le}
+use Prim.Native.Nat.{ℕ, zero, suc, ◌+◌, ◌-◌, ◌*◌, ◌%◌, ◌/◌, ◌<◌, ◌≤◌}
 use mathlib.Core.Path.{◌≡◌, refl, sym, ap, ◌∙◌, subst}
-use mathlib.Core.Bool.{Bool, true, false, not, ◌&&◌, ◌||◌, beq, cond}
-use native.Mathlib.Nat.{le_refl, le_trans, le_of_eq, mul_assoc, mul_comm, mul-one, one-mul, mul_left_comm, mul_right_comm, mul-pos, zero-mul, zero-lt-suc, mul-le-mul_right, sub-le}
+use mathlib.Core.Bool.{Bool, true, false, not, cond}
+use native.Mathlib.Nat.{le_trans, le_of_eq, mul_assoc, mul_comm, mul_left_comm, mul-pos, zero-mul, zero-lt-suc, mul-le-mul_right, sub-le}
 use native.Mathlib.Omega.{arith}
-use borrow.Author.Tests.{lt-ltb, le-ltb, ltb-true, ltb-false, leb-true, leb-false}
+use borrow.Author.Tests.{le-ltb, ltb-true, ltb-false, leb-false}
 use lib.Dec.{T, ltb, leb, eqb}
-use lib.IntN.{ℤ, pos, negsuc}
-use lib.Ieee.{Float, nan, inf, fin, Format, binary32, binary64, up, down, low, prec, top, hid, ones, odd, round, fits, add, sub, neg, sum, div, lt, le, eq, is_nan, of_bits, to_bits, of_fields}
-use lib.Ieee.Fits.{down_pos, up_pos, sub-fits, div-fits}
+use lib.IntN.{ℤ, pos}
+use lib.Ieee.{Float, nan, inf, fin, Format, binary32, binary64, up, down, low, prec, top, hid, ones, odd, round, fits, add, sub, neg, sum, div, lt, le, is_nan, of_bits, to_bits, of_fields}
+use lib.Ieee.Fits.{down_pos, up_pos, div-fits}
 use lib.Ieee.Scale.{finite}
 use lib.Ieee.Order.{round_mono}
 use lib.Ieee.Positive.{first_pos}
 use lib.Ieee.Bits.{of_bits-to_bits, is_true}
-use Rattle.numbers.proofs.Order.{no, round_signed, odd_signed, not-lt, le_not_lt, not_negative, leq_trans, ne_zero, zero_of, lt-le}
+use Rattle.numbers.proofs.Order.{no, round_signed, odd_signed, not-lt, le_not_lt, not_negative, ne_zero, zero_of}
 use Rattle.numbers.proofs.Value.{round_own}
 use Rattle.numbers.proofs.Zero.{+0}
 use Rattle.numbers.specs.Floats.{one64, sign, zero64}

@@ -1,8 +1,8 @@
 -- A value that fits is the only one with its number and sign, so that rounding that number gives it back. Assumes nothing.
 use Prim.Native.Nat.{ℕ, zero, suc, ◌+◌, ◌-◌, ◌*◌, ◌^◌, ◌%◌, ◌<◌, ◌≤◌}
 use mathlib.Core.Path.{◌≡◌, refl, sym, ap, ◌∙◌, subst}
-use mathlib.Core.Bool.{Bool, true, false, not, ◌&&◌, ◌||◌, cond}
-use native.Mathlib.Nat.{pow-suc, pow-succ', mul_assoc, mul_comm, mul-one, one-mul, mul_right_comm, mul_left_comm, mul-pos, mul-lt-mul_of_pos_right, lt_of_mul-lt-mul_right, lt_of_lt_of_le, lt_of_not-le, not-le_of_lt, le_of_suc-le-suc, le_of_eq, zero-mul, lt_irrefl, zero-lt-suc, eq_of_mul-eq-mul_right}
+use mathlib.Core.Bool.{Bool, ◌&&◌}
+use native.Mathlib.Nat.{pow-succ', mul_assoc, mul_comm, mul-one, one-mul, mul_right_comm, mul-pos, mul-lt-mul_of_pos_right, lt_of_mul-lt-mul_right, lt_of_not-le, not-le_of_lt, le_of_suc-le-suc, zero-mul, lt_irrefl, zero-lt-suc, eq_of_mul-eq-mul_right}
 use native.Mathlib.Omega.{arith}
 use lib.Dec.{T, ltb, leb, eqb, eqb→eq, ltb→lt, leb→le}
 use lib.Pow.{pow-add, pow_pos, pow-lt}

@@ -3,12 +3,12 @@
 use Prim.Native.Nat.{ℕ, zero, suc, ◌+◌, ◌<◌, ◌≤◌, ◌%◌}
 use native.Mathlib.Omega.{arith}
 use borrow.Author.Tests.{lt-ltb, le-ltb}
-use mathlib.Core.Path.{◌≡◌, refl, ap, sym, ◌∙◌, subst}
+use mathlib.Core.Path.{◌≡◌, refl, sym, ◌∙◌, subst}
 use mathlib.Core.Bool.{Bool, true, false, cond, not}
 use lib.Dec.{T, ltb}
 use lib.IntN.{ℤ}
 use lib.Ieee.{Float, nan, inf, fin, binary64, of_bits, to_bits, nan_bits, is_nan, fits, ne}
-use lib.Ieee.Bits.{of_bits-to_bits, to_bits-lt, of_bits-fits, nan_bits_is, nan_bits_above, is_false, is_true}
+use lib.Ieee.Bits.{of_bits-to_bits, to_bits-lt, of_bits-fits, nan_bits_is, nan_bits_above, is_false}
 use lib.Ieee.Compare.{differs_from_itself}
 use Rattle.numbers.specs.Floats.{sign}
 use Rattle.numbers.specs.Words.{of_word, to_word}

@@ -1,16 +1,15 @@
 -- Adding a zero, and a value less itself. Assumes nothing.
-use Prim.Native.Nat.{ℕ, zero, suc, ◌+◌, ◌-◌, ◌*◌, ◌^◌, ◌<◌, ◌≤◌, zero-le}
-use mathlib.Core.Path.{◌≡◌, refl, sym, ap, ◌∙◌, subst}
-use mathlib.Core.Bool.{Bool, true, false, not, ◌&&◌, ◌||◌, beq, cond}
-use mathlib.Core.List.{List, [], ◌∷◌}
+use Prim.Native.Nat.{ℕ, zero, suc, ◌+◌, ◌-◌, ◌*◌, ◌<◌, ◌≤◌}
+use mathlib.Core.Path.{◌≡◌, refl, sym, ap, ◌∙◌}
+use mathlib.Core.Bool.{Bool, true, false, ◌&&◌, beq, cond}
 use mathlib.Core.Logic.{◌⊎◌, inl, inr}
-use native.Mathlib.Nat.{le_refl, mul_assoc, mul_comm, mul-one, one-mul, mul-pos, zero-mul, zero-lt-suc, add-zero, zero-add, le_of_eq}
+use native.Mathlib.Nat.{le_refl, mul_comm, mul-one, mul-pos, zero-mul, zero-lt-suc}
 use native.Mathlib.Omega.{arith}
 use borrow.Author.Tests.{lt-ltb, le-ltb, ltb-true, ltb-false}
 use lib.Dec.{T, ltb, eqb, eqb-suc-zero}
-use lib.IntN.{ℤ, pos, negsuc}
+use lib.IntN.{ℤ, pos}
 use lib.Ieee.{Float, nan, inf, fin, Format, binary64, up, down, round, fits, add, sub, neg, sum, of_bits}
-use lib.Ieee.Fits.{down_pos, up_pos, add-fits}
+use lib.Ieee.Fits.{down_pos, up_pos}
 use lib.Ieee.Scale.{finite}
 use Rattle.numbers.proofs.Order.{no, round_signed}
 use Rattle.numbers.proofs.Value.{zero_exp, round_own, round_zero}

@@ -1,5 +1,5 @@
 -- The notions on numbers that the definitions share. Single operations and comparisons are IEEE 754's, as `lib.Ieee` has them.
-use Rattle.std.specs.Prelude.{ℕ, ◌≡◌, Bool, true, false, ◌&&◌, cond, List, [], ◌∷◌, eqb, pos, Float}
+use Rattle.std.specs.Prelude.{ℕ, ◌≡◌, Bool, true, false, ◌&&◌, cond, List, [], ◌∷◌, eqb, Float}
 use Rattle.std.specs.Float.Ieee.Scale.{finite}
 use Rattle.std.specs.Float.{nan, inf, fin, binary64}
 use Rattle.std.specs.Float.Ieee.{lt, le, is_nan, of_bits}

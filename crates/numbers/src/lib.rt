@@ -1,3 +1,5 @@
+#![tactic(auto)]
+
 ghost use Rattle.std.specs.Prelude.{◌≡◌, not, pos, ◌<◌, ◌≤◌, ◌++◌, length, get_or, drop, replicate};
 ghost use Rattle.std.specs.Float.{nan, binary64};
 ghost use Rattle.std.specs.Float.Ieee.{of_int};
@@ -8,7 +10,7 @@ ghost use Rattle.numbers.specs.Outcome.{needed_of, needed_list_of};
 ghost use Rattle.numbers.specs.Words.{of_word, to_word};
 
 // Why a call is refused: the table of document 01, numbers 1 to 15.
-#[derive(Drop)]
+#[derive(Clone, Copy)]
 pub enum Refusal {
     Room,
     Slot,
@@ -28,21 +30,21 @@ pub enum Refusal {
 }
 
 // One number, or why there is none.
-#[derive(Drop)]
+#[derive(Clone, Copy)]
 pub enum Scalar {
     Value(f64),
     Refused(Refusal),
 }
 
 // The answer of a leaf that checks what it is given, or that writes a list: taken, or refused and nothing written.
-#[derive(Drop)]
+#[derive(Clone, Copy)]
 pub enum Verdict {
     Taken,
     Refused(Refusal),
 }
 
 // The answer of a leaf that writes a list whose length is part of the answer.
-#[derive(Drop)]
+#[derive(Clone, Copy)]
 pub enum Count {
     Of(usize),
     Refused(Refusal),

@@ -1,4 +1,6 @@
 // What a job's image holds, as words: a slot keeps them, and the image's bytes are made from them.
+#![tactic(auto)]
+
 mod joining;
 mod reading;
 mod writing;

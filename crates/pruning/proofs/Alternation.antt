@@ -8,7 +8,7 @@ use native.Mathlib.Omega.{arith}
 use lib.ListN.{length}
 use lib.Ieee.{Float, lt, unlike}
 use Rattle.pruning.specs.Alternation.{Sub, done, skip, keep, AlternateFrom, Alternate}
-use Rattle.pruning.specs.Prune.{emit, turned, better, runs, runsFrom}
+use Rattle.pruning.specs.Prune.{emit, turned, better, runs, runs_from}
 
 -- ---- signs
 pub like : (z y : Bool) → unlike z y ≡ false → z ≡ y
@@ -107,12 +107,12 @@ module _ {A : Type 0} (negative : A → Bool) where
     length_emit false b r = omega arith
 
     -- as many runs as changes, and one
-    runs_count : (b : A) (l : List A) → length (runsFrom negative size b l) ≡ suc (changes (negative b) l)
-    unfolding runsFrom changes
+    runs_count : (b : A) (l : List A) → length (runs_from negative size b l) ≡ suc (changes (negative b) l)
+    unfolding runs_from changes
     runs_count b [] = refl
     runs_count b (a ∷ l) =
         let e = better_sign b a in
-        let r = runsFrom negative size (better negative size b a) l in
+        let r = runs_from negative size (better negative size b a) l in
         let h : length r ≡ suc (changes (negative a) l) = rw e at (runs_count (better negative size b a) l) in
         omega (arith, length_emit (turned negative size b a) b r)
 

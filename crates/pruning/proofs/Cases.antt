@@ -8,7 +8,7 @@ use Rattle.numbers.specs.Cases.{Case, Agree, none, also}
 use Rattle.numbers.specs.Floats.{all_finite}
 use Rattle.numbers.specs.Loops.{tab}
 use Rattle.numbers.specs.Outcome.{Outcome, refused, gave}
-use Rattle.pruning.specs.Prune.{prune, runs, runsFrom, drop_pair, weakest, weakestFrom, withoutPairs, lastFrom, withoutEnd}
+use Rattle.pruning.specs.Prune.{prune, runs, runs_from, drop_pair, weakest, weakest_from, without_pairs, last_from, without_end}
 use Rattle.pruning.specs.Errors.{most_candidates, kept_places, prune_for}
 
 -- the number n, and -n
@@ -35,5 +35,5 @@ cases =
     ∷ []
 
 pub starred : Agree cases
-unfolding prune_for kept_places prune runs runsFrom drop_pair weakest weakestFrom withoutPairs lastFrom withoutEnd all_finite tab lt le eq of_bits of_int neg
+unfolding prune_for kept_places prune runs runs_from drop_pair weakest weakest_from without_pairs last_from without_end all_finite tab lt le eq of_bits of_int neg
 starred = also refl (also refl (also refl (also refl (also refl (also refl (also refl (also refl none)))))))

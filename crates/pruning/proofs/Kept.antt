@@ -14,8 +14,8 @@ use lib.Dec.{leb, eqb}
 use lib.Ieee.{Float, lt, le, unlike}
 use Rattle.numbers.specs.Outcome.{refused, gave, unless}
 use Rattle.pruning.specs.Alternation.{Sub, done, skip, keep, AlternateFrom, Alternate, Alternating}
-use Rattle.pruning.specs.Prune.{emit, better, runs, runsFrom, drop_pair, weaker, weakestFrom, weakest}
-use Rattle.pruning.specs.Prune.{withoutPairs, lastFrom, withoutEnd, cut, prune}
+use Rattle.pruning.specs.Prune.{emit, better, runs, runs_from, drop_pair, weaker, weakest_from, weakest}
+use Rattle.pruning.specs.Prune.{without_pairs, last_from, without_end, cut, prune}
 use Rattle.pruning.proofs.Alternation.{sub_trans, sub_refl, longest, like, better_sign}
 
 sub_in : {A : Type 0} {b : A} {u l : List A} (a : A) → Sub u (b ∷ l) → Sub u (b ∷ a ∷ l)
@@ -88,7 +88,7 @@ module _ {A : Type 0} (negative : A → Bool) where
 
   module _ (size : A → Float) where
     abbrev from : A → List A → List A
-    from b l = runsFrom negative size b l
+    from b l = runs_from negative size b l
 
     abbrev next : A → A → A
     next b a = better negative size b a
@@ -109,7 +109,7 @@ module _ {A : Type 0} (negative : A → Bool) where
     weak l = weakest negative size l
 
     runs_sub : (b : A) (l : List A) → Sub (from b l) (b ∷ l)
-    unfolding runsFrom
+    unfolding runs_from
     runs_sub b [] = keep done
     runs_sub b (a ∷ l) = pick (unlike (negative b) (negative a)) (lt (size b) (size a)) (runs_sub (next b a) l)
       where
@@ -120,7 +120,7 @@ module _ {A : Type 0} (negative : A → Bool) where
         pick false false p = sub_in a p
 
     runs_alternate : (z : Bool) (b : A) (l : List A) → unlike z (negative b) ≡ true → AlternateFrom negative z (from b l)
-    unfolding runsFrom AlternateFrom
+    unfolding runs_from AlternateFrom
     runs_alternate z b [] e = (e, tt)
     runs_alternate z b (a ∷ l) e = pick (unlike (negative b) (negative a)) refl (λ w f. runs_alternate w (next b a) l f)
       where
@@ -144,8 +144,8 @@ module _ {A : Type 0} (negative : A → Bool) where
         (runs_sub b l, alternate_of (not (negative b)) (from b l) (runs_alternate (not (negative b)) b l (other (negative b))))
 
     -- the pair that goes is a pair of the list
-    weakest_below : (k best : ℕ) (v : Float) (x : A) (l : List A) → best < k → weakestFrom negative size k best v x l < k + length l
-    unfolding weakestFrom
+    weakest_below : (k best : ℕ) (v : Float) (x : A) (l : List A) → best < k → weakest_from negative size k best v x l < k + length l
+    unfolding weakest_from
     weakest_below k best v x [] h = omega arith
     weakest_below k best v x (y ∷ l) h =
         let t = lt (lesser x y) v in
@@ -162,8 +162,8 @@ module _ {A : Type 0} (negative : A → Bool) where
     weakest_in (x ∷ y ∷ l) h = omega (arith, weakest_below 1 0 (lesser x y) y l (omega arith))
 
     -- each pair that goes leaves entries that alternate, fewer by two
-    pairs_good : (k n : ℕ) (l : List A) → length l ≡ n + 2 * k → Alternate negative l → Alternating negative n (withoutPairs negative size k l) l
-    unfolding withoutPairs
+    pairs_good : (k n : ℕ) (l : List A) → length l ≡ n + 2 * k → Alternate negative l → Alternating negative n (without_pairs negative size k l) l
+    unfolding without_pairs
     pairs_good zero n l e a = record { count = omega arith; sub = sub_refl l; alternate = a }
     pairs_good (suc k) n l e a =
         let w = weakest_in l (omega arith) in
@@ -171,10 +171,10 @@ module _ {A : Type 0} (negative : A → Bool) where
         let g = pairs_good k n (drop_pair (weak l) l) h (alternate_pair (weak l) l a) in
         record { count = g.count; sub = sub_trans g.sub (sub-pair (weak l) l); alternate = g.alternate }
 
-    end_good : (n : ℕ) (l : List A) → length l ≡ suc n → Alternate negative l → Alternating negative n (withoutEnd negative size l) l
-    unfolding withoutEnd Alternate
+    end_good : (n : ℕ) (l : List A) → length l ≡ suc n → Alternate negative l → Alternating negative n (without_end negative size l) l
+    unfolding without_end Alternate
     end_good n [] e a = record { count = omega arith; sub = done; alternate = tt }
-    end_good n (x ∷ l) e a = pick (le (size (lastFrom negative size x l)) (size x))
+    end_good n (x ∷ l) e a = pick (le (size (last_from negative size x l)) (size x))
       where
         pick : (t : Bool) → Alternating negative n (cond t (take (length l) (x ∷ l)) l) (x ∷ l)
         pick true =
@@ -189,11 +189,11 @@ module _ {A : Type 0} (negative : A → Bool) where
     cut_good n r h a = pick (eqb ((length r - n) % 2) 1) refl
       where
         pick : (t : Bool) → eqb ((length r - n) % 2) 1 ≡ t
-            → Alternating negative n (withoutPairs negative size ((length r - n) / 2) (cond t (withoutEnd negative size r) r)) r
+            → Alternating negative n (without_pairs negative size ((length r - n) / 2) (cond t (without_end negative size r) r)) r
         pick true e =
             let o : (length r - n) % 2 ≡ 1 = eqb-true _ _ e in
             let f = end_good (length r - 1) r (omega arith) a in
-            let g = pairs_good ((length r - n) / 2) n (withoutEnd negative size r) (f.count ∙ omega arith) f.alternate in
+            let g = pairs_good ((length r - n) / 2) n (without_end negative size r) (f.count ∙ omega arith) f.alternate in
             record { count = g.count; sub = sub_trans g.sub f.sub; alternate = g.alternate }
         pick false e =
             let o : ((length r - n) % 2 ≡ 1 → ⊥) = eqb-false _ _ e in

@@ -11,7 +11,7 @@ use lib.ListN.{length, set, get_or, take, drop, drop_of_length-le}
 use lib.Seq.{drop-cons, take-suc-set, get_or-take, length-take-le, take-set-lt, drop-set-lt, take-take}
 use lib.Ieee.{Float, le}
 use Rattle.numbers.specs.Outcome.{refused, gave}
-use Rattle.pruning.specs.Prune.{without, drop_pair, weakest, withoutPairs, lastFrom, withoutEnd, cut, runs, prune}
+use Rattle.pruning.specs.Prune.{without, drop_pair, weakest, without_pairs, last_from, without_end, cut, runs, prune}
 use Rattle.pruning.proofs.Kept.{weakest_in}
 
 -- ---- of the first n of l those from k + gap on are still to be moved down to k
@@ -63,7 +63,7 @@ module _ {A : Type 0} (negative : A → Bool) (size : A → Float) where
   pub record Dropping (n k : ℕ) (l r : List A) : Type 0 where
     pub within : n ≤ k
     pub even : (k - n) % 2 ≡ 0
-    pub rest : withoutPairs negative size ((k - n) / 2) (take k l) ≡ r
+    pub rest : without_pairs negative size ((k - n) / 2) (take k l) ≡ r
 
   -- the weakest pair is one of the list
   pub pair_inside : (k : ℕ) (l : List A) → k ≤ length l → 2 ≤ k → weakest negative size (take k l) + 2 ≤ k
@@ -73,7 +73,7 @@ module _ {A : Type 0} (negative : A → Bool) (size : A → Float) where
 
   pub pairs_next : {n k w : ℕ} {l l' r : List A} → Dropping n k l r → k ≤ length l → n < k → w ≡ weakest negative size (take k l)
       → take (k - 2) l' ≡ without w 2 (take k l) → Dropping n (k - 2) l' r
-  unfolding withoutPairs
+  unfolding without_pairs
   pairs_next {n} {k} {w} {l} {l'} {r} a f h e t =
       let o : (k - n) % 2 ≡ 0 = a.even in
       let s : (k - n) / 2 ≡ suc ((k - 2 - n) / 2) = omega arith in
@@ -84,7 +84,7 @@ module _ {A : Type 0} (negative : A → Bool) (size : A → Float) where
       record { within = omega arith; even = omega arith; rest = rw q (rw s at a.rest) }
 
   pub pairs_end : {n k : ℕ} {l r : List A} → Dropping n k l r → k ≤ n → take n l ≡ r
-  unfolding withoutPairs
+  unfolding without_pairs
   pairs_end {n} {k} {l} {r} a h =
       let w : n ≤ k = a.within in
       let e : k ≡ n = omega arith in
@@ -92,28 +92,28 @@ module _ {A : Type 0} (negative : A → Bool) (size : A → Float) where
       rw (z, e) at a.rest
 
   -- ---- an end goes
-  last_is : (d x : A) (l : List A) → lastFrom negative size x l ≡ get_or (x ∷ l) (length l) d
-  unfolding lastFrom
+  last_is : (d x : A) (l : List A) → last_from negative size x l ≡ get_or (x ∷ l) (length l) d
+  unfolding last_from
   last_is d x [] = refl
   last_is d x (y ∷ l) = last_is d y l
 
   end_is : (d : A) (l : List A) → 0 < length l
-      → withoutEnd negative size l ≡ cond (le (size (get_or l (length l - 1) d)) (size (get_or l 0 d))) (take (length l - 1) l) (drop 1 l)
-  unfolding withoutEnd
+      → without_end negative size l ≡ cond (le (size (get_or l (length l - 1) d)) (size (get_or l 0 d))) (take (length l - 1) l) (drop 1 l)
+  unfolding without_end
   end_is d [] h = absurd (not-suc-le-zero h)
   end_is d (x ∷ l) h = let e : suc (length l) - 1 ≡ length l = omega arith in rw (e, last_is d x l)
 
   module _ (d : A) (l : List A) (m : ℕ) (fits : m ≤ length l) (some : 1 ≤ m) where
-    end_of : withoutEnd negative size (take m l)
+    end_of : without_end negative size (take m l)
         ≡ cond (le (size (get_or l (m - 1) d)) (size (get_or l 0 d))) (take (m - 1) (take m l)) (drop 1 (take m l))
     end_of =
         let here : length (take m l) ≡ m = length-take-le m l fits in
         rw (← get_or-take m l (m - 1) d (omega arith), ← get_or-take m l 0 d (omega arith)) (rw here at (end_is d (take m l) (omega arith)))
 
-    pub end_last : le (size (get_or l (m - 1) d)) (size (get_or l 0 d)) ≡ true → take (m - 1) l ≡ withoutEnd negative size (take m l)
+    pub end_last : le (size (get_or l (m - 1) d)) (size (get_or l 0 d)) ≡ true → take (m - 1) l ≡ without_end negative size (take m l)
     end_last t = rw (end_of, t, take-take (m - 1) m l (omega arith))
 
-    pub end_first : le (size (get_or l (m - 1) d)) (size (get_or l 0 d)) ≡ false → without 0 1 (take m l) ≡ withoutEnd negative size (take m l)
+    pub end_first : le (size (get_or l (m - 1) d)) (size (get_or l 0 d)) ≡ false → without 0 1 (take m l) ≡ without_end negative size (take m l)
     end_first t = rw (end_of, t)
 
   -- ---- the whole cut of the first m
@@ -121,14 +121,14 @@ module _ {A : Type 0} (negative : A → Bool) (size : A → Float) where
     here : length (take m l) ≡ m
     here = length-take-le m l fits
 
-    pub cut_odd : (m - n) % 2 ≡ 1 → (l' : List A) {u : List A} → take (m - 1) l' ≡ withoutEnd negative size (take m l)
-        → u ≡ withoutPairs negative size ((m - 1 - n) / 2) (take (m - 1) l') → u ≡ cut negative size n (take m l)
+    pub cut_odd : (m - n) % 2 ≡ 1 → (l' : List A) {u : List A} → take (m - 1) l' ≡ without_end negative size (take m l)
+        → u ≡ without_pairs negative size ((m - 1 - n) / 2) (take (m - 1) l') → u ≡ cut negative size n (take m l)
     cut_odd o l' {u} e f =
         let s : (m - 1 - n) / 2 ≡ (m - n) / 2 = omega arith in
         rw (here, eq-eqb ((m - n) % 2) 1 o, f, e, s)
 
     pub cut_even : {u : List A} → ((m - n) % 2 ≡ 1 → ⊥)
-        → u ≡ withoutPairs negative size ((m - n) / 2) (take m l) → u ≡ cut negative size n (take m l)
+        → u ≡ without_pairs negative size ((m - n) / 2) (take m l) → u ≡ cut negative size n (take m l)
     cut_even {u} o f = rw (here, ne_eqb ((m - n) % 2) 1 o, f)
 
   -- ---- the outcome, where the first m are the runs of all

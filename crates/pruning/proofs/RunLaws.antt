@@ -9,12 +9,12 @@ use lib.ListN.{length, set, get_or, take, drop, drop_of_length-le}
 use lib.Seq.{drop-cons, take-suc-set, get_or-take, length-take-le}
 use lib.Ieee.{Float, lt}
 use Rattle.numbers.specs.Loops.{tab}
-use Rattle.pruning.specs.Prune.{emit, turned, better, runs, runsFrom, weaker, weakestFrom, weakest}
+use Rattle.pruning.specs.Prune.{emit, turned, better, runs, runs_from, weaker, weakest_from, weakest}
 
 module _ {A : Type 0} (negative : A → Bool) (size : A → Float) where
   -- ---- the runs of g 0, g 1, ..: m are kept in front of k, b is the best of the run that is open, and from i on all is to come
   abbrev to-come : (ℕ → A) → ℕ → ℕ → A → List A
-  to-come g n i b = runsFrom negative size b (tab g (n - i) i)
+  to-come g n i b = runs_from negative size b (tab g (n - i) i)
 
   pub record Running (g : ℕ → A) (n i m : ℕ) (b : A) (k : List A) (r : List A) : Type 0 where
     pub below : m < i
@@ -35,7 +35,7 @@ module _ {A : Type 0} (negative : A → Bool) (size : A → Float) where
     module _ {i m : ℕ} {b : A} {k r : List A} (a : Running g n i m b k r) (h : i < n) where
       after_turn : (t : Bool) → turned negative size b (g i) ≡ t
           → take m k ++ emit t b (to-come g n (i + 1) (better negative size b (g i))) ≡ r
-      unfolding tab runsFrom
+      unfolding tab runs_from
       after_turn t q =
           let e : n - i ≡ suc (n - (i + 1)) = omega arith in
           subst (λ (z : Bool). take m k ++ emit z b (to-come g n (i + 1) (better negative size b (g i))) ≡ r) q (rw e at a.rest)
@@ -60,7 +60,7 @@ module _ {A : Type 0} (negative : A → Bool) (size : A → Float) where
             record { below = let q : m < i = a.below in omega arith; within = omega arith; rest = rw (t, s) at (after_turn false t) }
 
     pub runs_end : {i m : ℕ} {b : A} {k r : List A} → Running g n i m b k r → n ≤ i → m < length k → take (m + 1) (set k m b) ≡ r
-    unfolding tab runsFrom
+    unfolding tab runs_from
     runs_end {i} {m} {b} {k} {r} a h l =
         let e : n - i ≡ 0 = omega arith in
         rw (add-one m, take-suc-set k m b l) (rw e at a.rest)
@@ -68,7 +68,7 @@ module _ {A : Type 0} (negative : A → Bool) (size : A → Float) where
   -- ---- the weakest pair of the first n of l: of those before k it is v, at `best`
   module _ (l : List A) (d : A) (n : ℕ) where
     abbrev found : ℕ → ℕ → Float → ℕ
-    found k best v = weakestFrom negative size k best v (get_or l k d) (drop (k + 1) (take n l))
+    found k best v = weakest_from negative size k best v (get_or l k d) (drop (k + 1) (take n l))
 
     pub record Seeking (k best : ℕ) (v : Float) : Type 0 where
       pub within : k + 1 ≤ n
@@ -87,7 +87,7 @@ module _ {A : Type 0} (negative : A → Bool) (size : A → Float) where
 
       module _ {k best : ℕ} {v p : Float} (a : Seeking k best v) (h : k + 1 < n) (e : p ≡ weaker negative size (get_or l k d) (get_or l (k + 1) d)) where
         after_pair : (t : Bool) → lt p v ≡ t → found (k + 1) (cond t k best) (cond t p v) ≡ weakest negative size (take n l)
-        unfolding weakestFrom
+        unfolding weakest_from
         after_pair t q =
             subst (λ (z : Bool). found (k + 1) (cond z k best) (cond z p v) ≡ weakest negative size (take n l)) q
             (rw (e, add-one k) (rw (add-one k) at (rw (after (k + 1) h) at a.rest)))
@@ -99,6 +99,6 @@ module _ {A : Type 0} (negative : A → Bool) (size : A → Float) where
         seek_keep t = record { within = omega arith; rest = after_pair false t }
 
       pub seek_end : {k best : ℕ} {v : Float} → Seeking k best v → n ≤ k + 1 → best ≡ weakest negative size (take n l)
-      unfolding weakestFrom
+      unfolding weakest_from
       seek_end {k} {best} {v} a h =
           rw (drop_of_length-le (take n l) {i = k + 1} (omega (arith, length-take-le n l fits))) at a.rest

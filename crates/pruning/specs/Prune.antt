@@ -29,51 +29,51 @@ module _ {A : Type 0} (negative : A → Bool) (size : A → Float) where
   abbrev pub better : A → A → A
   better b a = cond (turned b a || lt (size b) (size a)) a b
 
-  unfoldable pub runsFrom : A → List A → List A
-  runsFrom b [] = b ∷ []
-  runsFrom b (a ∷ l) = emit (turned b a) b (runsFrom (better b a) l)
+  unfoldable pub runs_from : A → List A → List A
+  runs_from b [] = b ∷ []
+  runs_from b (a ∷ l) = emit (turned b a) b (runs_from (better b a) l)
 
   -- the largest of each run
   unfoldable pub runs : List A → List A
   runs [] = []
-  runs (b ∷ l) = runsFrom b l
+  runs (b ∷ l) = runs_from b l
 
   -- the smaller magnitude of a pair
   abbrev pub weaker : A → A → Float
   weaker x y = cond (lt (size y) (size x)) (size y) (size x)
 
   -- of the pairs from x on, the first of which stands at k: where the weakest is, when of those before k it is v, at `best`
-  unfoldable pub weakestFrom : ℕ → ℕ → Float → A → List A → ℕ
-  weakestFrom k best v x [] = best
-  weakestFrom k best v x (y ∷ l) =
-      weakestFrom (suc k) (cond (lt (weaker x y) v) k best) (cond (lt (weaker x y) v) (weaker x y) v) y l
+  unfoldable pub weakest_from : ℕ → ℕ → Float → A → List A → ℕ
+  weakest_from k best v x [] = best
+  weakest_from k best v x (y ∷ l) =
+      weakest_from (suc k) (cond (lt (weaker x y) v) k best) (cond (lt (weaker x y) v) (weaker x y) v) y l
 
   -- the earliest of the weakest pairs
   unfoldable pub weakest : List A → ℕ
   weakest [] = 0
   weakest (x ∷ []) = 0
-  weakest (x ∷ y ∷ l) = weakestFrom 1 0 (weaker x y) y l
+  weakest (x ∷ y ∷ l) = weakest_from 1 0 (weaker x y) y l
 
   -- k pairs go
-  unfoldable pub withoutPairs : ℕ → List A → List A
-  withoutPairs zero l = l
-  withoutPairs (suc k) l = withoutPairs k (drop_pair (weakest l) l)
+  unfoldable pub without_pairs : ℕ → List A → List A
+  without_pairs zero l = l
+  without_pairs (suc k) l = without_pairs k (drop_pair (weakest l) l)
 
-  unfoldable pub lastFrom : A → List A → A
-  lastFrom x [] = x
-  lastFrom x (y ∷ l) = lastFrom y l
+  unfoldable pub last_from : A → List A → A
+  last_from x [] = x
+  last_from x (y ∷ l) = last_from y l
 
   -- the last goes if |first| >= |last|, else the first
-  unfoldable pub withoutEnd : List A → List A
-  withoutEnd [] = []
-  withoutEnd (x ∷ l) = cond (le (size (lastFrom x l)) (size x)) (take (length l) (x ∷ l)) l
+  unfoldable pub without_end : List A → List A
+  without_end [] = []
+  without_end (x ∷ l) = cond (le (size (last_from x l)) (size x)) (take (length l) (x ∷ l)) l
 
   -- a surplus of d that is odd
   abbrev pub evened : ℕ → List A → List A
-  evened d r = cond (eqb (d % 2) 1) (withoutEnd r) r
+  evened d r = cond (eqb (d % 2) 1) (without_end r) r
 
   abbrev pub cut : ℕ → List A → List A
-  cut n r = withoutPairs ((length r - n) / 2) (evened (length r - n) r)
+  cut n r = without_pairs ((length r - n) / 2) (evened (length r - n) r)
 
   -- refusal 13 where there are fewer runs than n
   unfoldable pub prune : ℕ → List A → Outcome (List A)

@@ -3,14 +3,14 @@ ghost use Rattle.pruning.specs.Candidates.{raws, zeros, none, all, put_raw, put}
 ghost use Rattle.pruning.specs.Sort.{inserted_words, Insertable, sorted_words};
 
 // A place on the axis of x where the error may be extreme, and the error there.
-#[derive(Drop)]
+#[derive(Clone, Copy)]
 pub struct Candidate {
     pub x: f64,
     pub error: f64,
 }
 
 // A candidate's two words, as they stand.
-#[derive(Drop)]
+#[derive(Clone, Copy)]
 struct Raw {
     x: u64,
     error: u64,

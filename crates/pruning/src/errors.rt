@@ -1,7 +1,7 @@
 ghost use Rattle.std.specs.Prelude.{◌≡◌, ◌+◌, ◌-◌, ◌/◌, ◌%◌, ◌<◌, ◌≤◌, ◌++◌, length, get_or, take, drop};
 ghost use Rattle.std.specs.Float.{nan};
 ghost use Rattle.numbers.specs.Refusals.{Filled};
-ghost use Rattle.pruning.specs.Prune.{runs, weakest, without, withoutEnd, withoutPairs, cut};
+ghost use Rattle.pruning.specs.Prune.{runs, weakest, without, without_end, without_pairs, cut};
 ghost use Rattle.pruning.specs.Errors.{negative_at, size_at, places_of, kept_places, sized, prune_for, Fitting};
 
 use numbers::{Refusal, Verdict};
@@ -95,7 +95,7 @@ fn close(kept: &mut [u64], n: usize, i: usize, gap: usize)
 
 fn drop_end(errors: &[f64], kept: &mut [u64], m: usize)
     requires { (1 ≤ m) × (m ≤ length kept.old) }
-    ensures { take (m - 1) kept.new ≡ withoutEnd (negative_at errors.now) (size_at errors.now) (take m kept.old) }
+    ensures { take (m - 1) kept.new ≡ without_end (negative_at errors.now) (size_at errors.now) (take m kept.old) }
 {
     if size(errors, kept[0]) >= size(errors, kept[m - 1]) {
         return;
@@ -105,7 +105,7 @@ fn drop_end(errors: &[f64], kept: &mut [u64], m: usize)
 
 fn drop_pairs(errors: &[f64], kept: &mut [u64], m: usize, n: usize)
     requires { (n ≤ m) × ((m - n) % 2 ≡ 0) × (m ≤ length kept.old) }
-    ensures { take n kept.new ≡ withoutPairs (negative_at errors.now) (size_at errors.now) ((m - n) / 2) (take m kept.old) }
+    ensures { take n kept.new ≡ without_pairs (negative_at errors.now) (size_at errors.now) ((m - n) / 2) (take m kept.old) }
 {
     let mut k = m;
     while n < k {

@@ -1,4 +1,6 @@
 // The candidates of an exchange (extrema.rs of pm-remez): in lent words, sorted, and pruned to those that alternate.
+#![tactic(auto)]
+
 mod candidates;
 mod errors;
 

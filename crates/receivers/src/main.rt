@@ -1,4 +1,6 @@
 // A bank of jobs run by the commands of standard input. Every line is a command or belongs to one (README.md has them all).
+#![tactic(auto)]
+
 mod calls;
 mod comparing;
 mod patching;

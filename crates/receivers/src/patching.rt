@@ -26,7 +26,7 @@ fn put_byte(out: &mut [u8], at: usize, b: u8) {
 }
 
 // A value's kind and its two numbers; a constant repeats its own.
-#[derive(Drop)]
+#[derive(Clone, Copy)]
 struct Parts {
     kind: u8,
     first: f64,

@@ -8,14 +8,14 @@ use crate::residual;
 use numbers::{Count, Refusal, Scalar};
 
 // The ends of a cell that is being halved.
-#[derive(Drop)]
+#[derive(Clone, Copy)]
 pub struct Bracket {
     pub low: f64,
     pub high: f64,
 }
 
 // What a cell yields: nothing, the low end of its bracket, or why that is refused.
-#[derive(Drop)]
+#[derive(Clone, Copy)]
 pub enum Cell {
     Nothing,
     Root(f64),

@@ -1,4 +1,6 @@
 // The roots of a balanced colleague matrix, where pm-remez takes its eigenvalues (document 01, "Roots").
+#![tactic(auto)]
+
 ghost use Rattle.std.specs.Prelude.{◌≡◌, ◌<◌, ◌≤◌, ◌++◌, map, length, take, drop};
 ghost use Rattle.numbers.specs.Refusals.{Wrote};
 ghost use Rattle.colleague.specs.Matrix.{entries_finite};

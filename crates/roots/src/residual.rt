@@ -9,7 +9,7 @@ ghost use Rattle.roots.specs.Rows.{turns, turned};
 ghost use Rattle.roots.specs.Reciprocals.{Reciprocal, Reciprocals, turn_times, turned_times};
 
 // The recurrence's two running numbers.
-#[derive(Drop)]
+#[derive(Clone, Copy)]
 pub struct Turn {
     pub n: f64,
     pub v: f64,

@@ -1,7 +1,7 @@
 // How a case comes out. pm-remez fails where document 01 refuses, or goes on where 01 has a difference (docs/DIFFERENCES.md).
 use text::Token;
 
-#[derive(Drop)]
+#[derive(Clone, Copy)]
 pub(crate) enum Judged {
     // Neither of the following, or not to be read.
     Wrong,

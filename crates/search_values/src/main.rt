@@ -1,5 +1,7 @@
 // Runs the leaves of the search on the stored list of cases and compares them, bit for bit, with what pm-remez answered (the roots
 // with a second writing of document 01: pm-remez has none).
+#![tactic(auto)]
+
 mod candidates;
 mod intervals;
 mod judging;
@@ -37,7 +39,7 @@ fn judged_case(s: &[u8], from: usize, to: usize) -> Judged {
 }
 
 // How the cases of a leaf come out.
-#[derive(Drop)]
+#[derive(Clone, Copy)]
 struct Tally {
     cases: u64,
     same: u64,

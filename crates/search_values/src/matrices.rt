@@ -4,7 +4,7 @@ use colleague::{Answer, Colleague, Row};
 use numbers::{Count, Refusal, Verdict};
 
 // Rows of a matrix, where they end, and whether they could be read.
-#[derive(Drop)]
+#[derive(Clone, Copy)]
 struct Rows {
     rows: [Row; 15],
     at: usize,

@@ -1,1 +1,2 @@
 // Document 01's starred cases, proved together: see proofs/Starred.antt. No code.
+#![tactic(auto)]

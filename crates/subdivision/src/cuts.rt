@@ -7,21 +7,21 @@ use fir_types::{Edges, Interval};
 use numbers::{Refusal, Verdict};
 
 // Subintervals in rising order of their bands: as many as 65 points and 8 bands can make.
-#[derive(Drop)]
+#[derive(Clone, Copy)]
 pub struct Intervals {
     pub list: [Interval; 73],
     pub count: usize,
 }
 
 // The subintervals, or none and why.
-#[derive(Drop)]
+#[derive(Clone, Copy)]
 pub struct Divided {
     pub intervals: Intervals,
     pub verdict: Verdict,
 }
 
 // The intervals made so far, and how many points are left: the first of the list, since the points fall.
-#[derive(Drop)]
+#[derive(Clone, Copy)]
 struct Cutting {
     intervals: Intervals,
     left: usize,

@@ -7,7 +7,7 @@ use fir_types::{Edges, Interval};
 use numbers::{Refusal, Verdict};
 
 // The band that a walk along the bands has reached, and the length of those before it.
-#[derive(Drop)]
+#[derive(Clone, Copy)]
 struct Walk {
     band: usize,
     consumed: f64,

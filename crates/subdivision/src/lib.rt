@@ -1,4 +1,6 @@
 // First points and subintervals (extrema.rs of pm-remez).
+#![tactic(auto)]
+
 ghost use Rattle.std.specs.Prelude.{◌≡◌, ◌&&◌, ◌<◌, ◌≤◌};
 ghost use Rattle.std.specs.Float.Ieee.Scale.{finite};
 ghost use Rattle.subdivision.specs.First.{band_of, edges_finite};

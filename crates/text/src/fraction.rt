@@ -5,14 +5,14 @@ ghost use Rattle.text.specs.Fractions.{with_byte, fraction_from, unsigned_of, fr
 use crate::part;
 
 // Minus or not, the digits without their point, and the power of ten that the point divides them by.
-#[derive(Drop)]
+#[derive(Clone, Copy)]
 pub enum Fraction {
     Of(bool, u32, u32),
     Wrong,
 }
 
 // The digits so far, their power of ten, and whether the point was passed.
-#[derive(Drop)]
+#[derive(Clone, Copy)]
 enum Partly {
     Digits(u32, u32, bool),
     Wrong,

@@ -1,4 +1,6 @@
 // Text as the gate programs read it: words between blanks, numerals in them, and remarks from a `#` to the end of its line.
+#![tactic(auto)]
+
 mod fraction;
 
 ghost use Rattle.std.specs.Prelude.{◌≡◌, ◌+◌, drop};
@@ -9,14 +11,14 @@ ghost use Rattle.text.specs.Numerals.{value_of, Short, numeral, hex_of, decimal_
 pub use fraction::{Fraction, plain};
 
 // A word from its first byte to one past its last, or the end of the text.
-#[derive(Drop)]
+#[derive(Clone, Copy)]
 pub enum Token {
     Word(usize, usize),
     End,
 }
 
 // The number that digits stand for.
-#[derive(Drop)]
+#[derive(Clone, Copy)]
 pub enum Digits {
     Value(u64),
     Wrong,

@@ -1,0 +1,21 @@
+-- `barycentric::three_finite` meets its contract. Assumes nothing.
+use mathlib.Core.Path.{sym, ◌∙◌}
+use borrow.Author.Tests.{not-true, not-false}
+use Rattle.barycentric.proofs.three_finite.Goals as goal
+
+pub returns-then-not-all_finite : goal.returns-then-not-all_finite
+returns-then-not-all_finite c = rw (sym c.all_finite.ensures ∙ not-true _ c.if-not-all_finite.true-raw)
+
+pub returns-then-not-all_finite-2 : goal.returns-then-not-all_finite-2
+returns-then-not-all_finite-2 c = rw (
+  sym c.all_finite.ensures ∙ not-false _ c.if-not-all_finite.false-raw,
+  sym c.all_finite-2.ensures ∙ not-true _ c.if-not-all_finite-2.true-raw,
+)
+
+pub returns : goal.returns
+returns c =
+    rw (
+      sym c.all_finite.ensures ∙ not-false _ c.if-not-all_finite.false-raw,
+      sym c.all_finite-2.ensures ∙ not-false _ c.if-not-all_finite-2.false-raw,
+    )
+    c.all_finite-3.ensures

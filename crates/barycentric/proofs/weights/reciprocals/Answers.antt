@@ -1,0 +1,14 @@
+-- `barycentric::weights::reciprocals` meets its contract. Assumes nothing.
+use mathlib.Core.Path.{refl}
+use borrow.Author.Rules.{rules}
+use Rattle.barycentric.proofs.LaneLaws.{pass_start, pass_next, pass_end}
+use Rattle.barycentric.proofs.weights.reciprocals.Goals as goal
+
+pub loop-k-init : goal.loop-k-init
+loop-k-init c = pass_start
+
+pub loop-k-preserved : goal.loop-k-preserved
+loop-k-preserved c = pass_next c.loop-k.invariant (search rules) refl
+
+pub returns : goal.returns
+returns c = pass_end c.loop-k.invariant (search rules)

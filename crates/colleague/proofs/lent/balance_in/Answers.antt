@@ -1,0 +1,34 @@
+-- `colleague::lent::balance_in` meets its contract. Assumes nothing.
+use mathlib.Core.Path.{◌≡◌, sym, ◌∙◌}
+use mathlib.Core.Bool.{true}
+use borrow.Author.Tests.{not-true, not-false}
+use Rattle.colleague.specs.Matrix.{entries_finite}
+use Rattle.colleague.proofs.AnswerLaws.{not_built, over, not_balanced, balanced}
+use Rattle.colleague.proofs.LentLaws.{made, made_none}
+use Rattle.colleague.proofs.lent.balance_in.Goals as goal
+
+pub returns-then-not-are_entries_finite : goal.returns-then-not-are_entries_finite
+returns-then-not-are_entries_finite c =
+    made_none
+    (not_built _ _ _ c.build_in.ensures (sym c.are_entries_finite.ensures ∙ not-true _ c.if-not-are_entries_finite.true-raw))
+
+pub returns-in_default : goal.returns-in_default
+returns-in_default c =
+    let d = c in
+    made_none (over _ _ _ d.build_in.ensures (let fact : entries_finite d.build_in.new.1.1.0 ≡ true = sym d.are_entries_finite.ensures ∙ not-false _ d.if-not-are_entries_finite.false-raw in fact) (rw c.in_default.is at d.balance_matrix-passes.ensures))
+
+pub returns-then-not-are_entries_finite-2 : goal.returns-then-not-are_entries_finite-2
+returns-then-not-are_entries_finite-2 c =
+    let k = c in
+    let d = k in
+    made_none
+    (not_balanced _ _ _ d.build_in.ensures (let fact : entries_finite d.build_in.new.1.1.0 ≡ true = sym d.are_entries_finite.ensures ∙ not-false _ d.if-not-are_entries_finite.false-raw in fact) _ _ (rw k.in-Made.is at d.balance_matrix-passes.ensures)
+    (sym c.are_entries_finite-2.ensures ∙ not-true _ c.if-not-are_entries_finite-2.true-raw))
+
+pub returns : goal.returns
+returns c =
+    let k = c in
+    let d = k in
+    made
+    (balanced _ _ _ d.build_in.ensures (let fact : entries_finite d.build_in.new.1.1.0 ≡ true = sym d.are_entries_finite.ensures ∙ not-false _ d.if-not-are_entries_finite.false-raw in fact) _ _ (rw k.in-Made.is at d.balance_matrix-passes.ensures)
+    (sym c.are_entries_finite-2.ensures ∙ not-false _ c.if-not-are_entries_finite-2.false-raw))

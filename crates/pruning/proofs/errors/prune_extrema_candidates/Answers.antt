@@ -1,0 +1,35 @@
+-- `pruning::errors::prune_extrema_candidates` meets its contract. Assumes nothing.
+use mathlib.Core.Path.{sym, ◌∙◌}
+use borrow.Author.Tests.{not-true, not-false}
+use Rattle.numbers.proofs.OutcomeLaws.{fills_none}
+use Rattle.pruning.specs.Errors.{prune_for}
+use Rattle.pruning.proofs.Places.{fitting}
+use Rattle.pruning.proofs.errors.prune_extrema_candidates.Goals as goal
+
+pub returns-then-not-is_sized : goal.returns-then-not-is_sized
+unfolding prune_for
+returns-then-not-is_sized c = fills_none (rw (sym c.is_sized.ensures ∙ not-true _ c.if-not-is_sized.true-raw))
+
+pub returns-then-not-all_finite : goal.returns-then-not-all_finite
+unfolding prune_for
+returns-then-not-all_finite c =
+    fills_none
+    (rw (
+      sym c.is_sized.ensures ∙ not-false _ c.if-not-is_sized.false-raw,
+      sym c.all_finite.ensures ∙ not-true _ c.if-not-all_finite.true-raw,
+    ))
+
+pub prune_finite-requires : goal.prune_finite-requires
+prune_finite-requires c =
+    let s = c in
+    fitting _ _ _ (sym s.is_sized.ensures ∙ not-false _ s.if-not-is_sized.false-raw)
+
+pub returns : goal.returns
+unfolding prune_for
+returns c =
+    let s = c in
+    rw (
+      sym s.is_sized.ensures ∙ not-false _ s.if-not-is_sized.false-raw,
+      sym s.all_finite.ensures ∙ not-false _ s.if-not-all_finite.false-raw,
+    )
+    c.prune_finite.ensures

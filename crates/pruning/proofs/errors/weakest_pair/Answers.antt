@@ -1,0 +1,38 @@
+-- `pruning::errors::weakest_pair` meets its contract. Assumes nothing.
+use mathlib.Core.Logic.{⊎_elim}
+use native.Mathlib.Omega.{arith}
+use Rattle.pruning.specs.Errors.{negative_at, size_at}
+use Rattle.pruning.proofs.RunLaws.{seek_start, seek_lower, seek_keep, seek_end}
+use Rattle.pruning.proofs.errors.weakest_pair.Goals as goal
+
+pub loop-k-init : goal.loop-k-init
+loop-k-init c =
+    let a = c.args in
+    let e = a.errors.now in
+    let q = c.size-last.ensures in (
+      q,
+      rw (c.smaller-v.ensures, q, c.size-first.ensures) (seek_start (negative_at e) (size_at e) a.kept.now 0 a.n (omega arith) (omega arith)),
+    )
+
+pub loop-k-preserved : goal.loop-k-preserved
+loop-k-preserved c =
+    let a = c.args in
+    let e = a.errors.now in
+    let l = c.loop-k in
+    let h = c.loop-k-test.true in
+    let q = c.size-next.ensures in
+    let p = rw (l.invariant.0, q) at c.smaller-p.ensures in
+    ⊎_elim
+    (λ w.
+    rw (w.1, w.2)
+    (q, seek_lower (negative_at e) (size_at e) a.kept.now 0 a.n (omega arith) l.invariant.1 h p w.0.taken))
+    (λ w.
+    rw (w.1, w.2)
+    (q, seek_keep (negative_at e) (size_at e) a.kept.now 0 a.n (omega arith) l.invariant.1 h p w.0.left))
+    c.if-p-v.branch
+
+pub returns : goal.returns
+returns c =
+    let a = c.args in
+    let e = a.errors.now in
+    seek_end (negative_at e) (size_at e) a.kept.now 0 a.n (omega arith) c.loop-k.invariant.1 c.loop-k-test.false
