@@ -12,20 +12,20 @@ loop-j-init c = let e : c.args.n - 0 ≡ c.args.n = omega arith in (omega arith,
 
 pub returns-in-Stopped : goal.returns-in-Stopped
 returns-in-Stopped c = sym (rw c.in-Stopped.is at (let fact : let g = c.args in let k = c.loop-j in
-    pass_by c.balance_row-s.result k.moved c.balance_row-s.new.0 (pass_from (g.n - (k.j + 1)) g.n (k.j + 1) c.balance_row-s.new.0) ≡ pass_of g.a.now g.n = let g = c.args in
+    pass_by c.balance_row-s.result k.moved c.balance_row-s.new.a (pass_from (g.n - (k.j + 1)) g.n (k.j + 1) c.balance_row-s.new.a) ≡ pass_of g.a.now g.n = let g = c.args in
     let k = c.loop-j in
-    pass_by_fact g.n k.j k.a k.moved _ (omega arith) c.balance_row-s.result c.balance_row-s.new.0 c.balance_row-s.ensures.0 c.balance_row-s.ensures.1 k.invariant.1 in fact))
+    pass_by_fact g.n k.j k.a k.moved _ (omega arith) c.balance_row-s.result c.balance_row-s.new.a c.balance_row-s.ensures.0 c.balance_row-s.ensures.1 k.invariant.1 in fact))
 
 pub loop-j-preserved : goal.loop-j-preserved
 loop-j-preserved c = (
   omega arith,
   ⊎_elim (λ w. rw w.2 (rw w.1.given.1 at (let fact : let g = c.args in let k = c.loop-j in
-      pass_by c.balance_row-s.result k.moved c.balance_row-s.new.0 (pass_from (g.n - (k.j + 1)) g.n (k.j + 1) c.balance_row-s.new.0) ≡ pass_of g.a.now g.n = let g = c.args in
+      pass_by c.balance_row-s.result k.moved c.balance_row-s.new.a (pass_from (g.n - (k.j + 1)) g.n (k.j + 1) c.balance_row-s.new.a) ≡ pass_of g.a.now g.n = let g = c.args in
       let k = c.loop-j in
-      pass_by_fact g.n k.j k.a k.moved _ (omega arith) c.balance_row-s.result c.balance_row-s.new.0 c.balance_row-s.ensures.0 c.balance_row-s.ensures.1 k.invariant.1 in fact))) (λ w. rw w.2 (rw w.1.given.1 at (let fact : let g = c.args in let k = c.loop-j in
-      pass_by c.balance_row-s.result k.moved c.balance_row-s.new.0 (pass_from (g.n - (k.j + 1)) g.n (k.j + 1) c.balance_row-s.new.0) ≡ pass_of g.a.now g.n = let g = c.args in
+      pass_by_fact g.n k.j k.a k.moved _ (omega arith) c.balance_row-s.result c.balance_row-s.new.a c.balance_row-s.ensures.0 c.balance_row-s.ensures.1 k.invariant.1 in fact))) (λ w. rw w.2 (rw w.1.given.1 at (let fact : let g = c.args in let k = c.loop-j in
+      pass_by c.balance_row-s.result k.moved c.balance_row-s.new.a (pass_from (g.n - (k.j + 1)) g.n (k.j + 1) c.balance_row-s.new.a) ≡ pass_of g.a.now g.n = let g = c.args in
       let k = c.loop-j in
-      pass_by_fact g.n k.j k.a k.moved _ (omega arith) c.balance_row-s.result c.balance_row-s.new.0 c.balance_row-s.ensures.0 c.balance_row-s.ensures.1 k.invariant.1 in fact))) c.in-Still.branch,
+      pass_by_fact g.n k.j k.a k.moved _ (omega arith) c.balance_row-s.result c.balance_row-s.new.a c.balance_row-s.ensures.0 c.balance_row-s.ensures.1 k.invariant.1 in fact))) c.in-Still.branch,
 )
 
 pub returns : goal.returns

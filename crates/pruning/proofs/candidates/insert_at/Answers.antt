@@ -1,9 +1,9 @@
 -- `pruning::candidates::insert_at` meets its contract. Assumes nothing.
 use mathlib.Core.Path.{◌∙◌}
-use mathlib.Core.Logic.{⊎_elim}
 use native.Mathlib.Omega.{arith}
 use Rattle.pruning.proofs.SortLaws.{move_start, move_next, move_end}
 use Rattle.pruning.proofs.candidates.insert_at.Goals as goal
+use Rattle.pruning.proofs.candidates.insert_at.Goals.{else-loop-k-test, then-loop-k-test+else-x-of_word}
 
 pub raw_at-c-requires : goal.raw_at-c-requires
 raw_at-c-requires c = c.requires.inside
@@ -45,6 +45,7 @@ returns c =
     c.put_raw-2.ensures
     ∙ move_end s.args.words.now s.args.i s.requires.inside _ l.loop-k.invariant s.requires.ordered l.raw_at-c.ensures
     (λ h.
-    ⊎_elim (λ w. absurd (omega (arith, w.left)))
-    (λ w. rw (l.of_word-x.ensures, w.3.ensures, w.2.ensures) at w.4.left)
-    c.loop-k-test.branch)
+    elim c.loop-k-test.branch [
+      | else-loop-k-test w ↦ absurd (omega arith)
+      | then-loop-k-test+else-x-of_word w ↦ rw (l.of_word-x.ensures, w.of_word.ensures, w.raw_at-p.ensures) at w.if-x-of_word.false
+    ])

@@ -1,14 +1,14 @@
 -- `pruning::candidates::sort_candidates` meets its contract. Assumes nothing.
 use mathlib.Core.Path.{◌∙◌}
-use mathlib.Core.Logic.{⊎_elim}
 use native.Mathlib.Omega.{arith}
 use Rattle.pruning.proofs.SortLaws.{sorted_start, sorted_insertable, sorted_next, sorted_min, length_sorted_words}
 use Rattle.pruning.proofs.candidates.sort_candidates.Goals as goal
+use Rattle.pruning.proofs.candidates.sort_candidates.Goals.{then-n-held, else-n-held}
 
 pub loop-i-init : goal.loop-i-init
 loop-i-init c = (
   omega arith,
-  ⊎_elim (λ w. omega (arith, w.1)) (λ w. omega (arith, w.1)) c.if-n-held.branch,
+  elim c.if-n-held.branch [ then-n-held w ↦ omega arith | else-n-held w ↦ omega arith ],
   sorted_start c.args.words.now,
 )
 

@@ -11,7 +11,7 @@ returns-then-m-n-eq1 c =
     let d = c.drop_end in
     cut_odd (negative_at e) (size_at e) a.n a.m a.kept.now (omega arith)
     c.if-m-n-eq1.true
-    d.new.1.0
+    d.new.kept
     d.ensures
     c.drop_pairs.ensures
 

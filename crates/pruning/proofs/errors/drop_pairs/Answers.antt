@@ -20,9 +20,9 @@ close-requires c =
     let a = c.args in
     let e = a.errors.now in
     let l = c.loop-k in
-    let s : l.k ≤ length l.auto = omega (arith, l.invariant.0, l.invariant.1) in
+    let s : l.k ≤ length l.kept = omega (arith, l.invariant.0, l.invariant.1) in
     let t : 2 ≤ l.k = omega (arith, l.invariant.2.even) in
-    (omega (arith, pair_inside (negative_at e) (size_at e) l.k l.auto s t, c.weakest_pair-w.ensures), s)
+    (omega (arith, pair_inside (negative_at e) (size_at e) l.k l.kept s t, c.weakest_pair-w.ensures), s)
 
 pub overflow_sub-k : goal.overflow_sub-k
 overflow_sub-k c = let l = c.loop-k.invariant in omega (arith, l.2.even)

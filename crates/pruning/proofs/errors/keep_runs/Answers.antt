@@ -1,12 +1,12 @@
 -- `pruning::errors::keep_runs` meets its contract. Assumes nothing.
 use mathlib.Core.Path.{refl}
-use mathlib.Core.Logic.{⊎_elim}
 use native.Mathlib.Omega.{arith}
 use lib.ListN.{length-set}
 use Rattle.pruning.specs.Errors.{negative_at, size_at}
 use Rattle.pruning.proofs.Alternation.{like}
 use Rattle.pruning.proofs.RunLaws.{runs_start, runs_turn, runs_larger, runs_same, runs_end}
 use Rattle.pruning.proofs.errors.keep_runs.Goals as goal
+use Rattle.pruning.proofs.errors.keep_runs.Goals.{then-below-negative, else-below-negative+then-largest-size, else-below-negative+else-largest-size}
 
 pub loop-i-init : goal.loop-i-init
 loop-i-init c =
@@ -21,30 +21,29 @@ loop-i-preserved c =
     let v = l.invariant in
     let h = c.loop-i-test.true in
     let z = c.magnitude-size.ensures in
-    ⊎_elim
-    (λ w.
-    rw (w.1, w.2, w.3, w.4, w.5) (
-      simp length-set v.0,
-      refl,
-      z,
-      runs_turn (negative_at e) (size_at e) v.3 h (omega (arith, v.0, v.3.below, v.3.within)) (rw v.1 at w.0.taken),
-    ))
-    (⊎_elim
-    (λ w.
-    rw (w.2, w.3, w.4, w.5, w.6) (
-      v.0,
-      like _ _ w.0.left,
-      z,
-      runs_larger (negative_at e) (size_at e) v.3 h (rw v.1 at w.0.left) (rw (v.2, z) at w.1.taken),
-    ))
-    (λ w.
-    rw (w.2, w.3, w.4, w.5, w.6) (
-      v.0,
-      v.1,
-      v.2,
-      runs_same (negative_at e) (size_at e) v.3 h (rw v.1 at w.0.left) (rw (v.2, z) at w.1.left),
-    )))
-    c.if-below-negative.branch
+    elim c.if-below-negative.branch [
+      | then-below-negative w ↦
+          rw (w.kept-is, w.m-is, w.b-is, w.below-is, w.largest-is) (
+            simp length-set v.0,
+            refl,
+            z,
+            runs_turn (negative_at e) (size_at e) v.3 h (omega (arith, v.0, v.3.below, v.3.within)) (rw v.1 at w.if-below-negative.true),
+          )
+      | else-below-negative+then-largest-size w ↦
+          rw (w.m-is, w.kept-is, w.b-is, w.below-is, w.largest-is) (
+            v.0,
+            like _ _ w.if-below-negative.false,
+            z,
+            runs_larger (negative_at e) (size_at e) v.3 h (rw v.1 at w.if-below-negative.false) (rw (v.2, z) at w.if-largest-size.true),
+          )
+      | else-below-negative+else-largest-size w ↦
+          rw (w.m-is, w.kept-is, w.b-is, w.below-is, w.largest-is) (
+            v.0,
+            v.1,
+            v.2,
+            runs_same (negative_at e) (size_at e) v.3 h (rw v.1 at w.if-below-negative.false) (rw (v.2, z) at w.if-largest-size.false),
+          )
+    ]
 
 pub returns : goal.returns
 returns c =

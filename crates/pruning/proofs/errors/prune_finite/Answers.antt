@@ -15,19 +15,19 @@ returns-then-m-n c =
     let a = c.args in
     let e = a.errors.now in
     let k = c.keep_runs-m in
-    let f : k.result ≤ length k.new.1.0 = omega arith in
-    fills_none (too_few (negative_at e) (size_at e) a.n k.result k.new.1.0 (places_of e) f k.ensures.1 c.if-m-n.true)
+    let f : k.result ≤ length k.new.kept = omega arith in
+    fills_none (too_few (negative_at e) (size_at e) a.n k.result k.new.kept (places_of e) f k.ensures.1 c.if-m-n.true)
 
 pub slice_bounds-copy_places-end : goal.slice_bounds-copy_places-end
 slice_bounds-copy_places-end c =
     let n = c.args.n in
-    let u = c.cut_to.new.1.0 in
+    let u = c.cut_to.new.kept in
     sym (length-take-le n u (omega arith))
 
 pub copy_places-requires : goal.copy_places-requires
 copy_places-requires c =
     let n = c.args.n in
-    let u = c.cut_to.new.1.0 in
+    let u = c.cut_to.new.kept in
     omega (arith, length-take-le n u (omega arith))
 
 pub returns : goal.returns
@@ -36,10 +36,10 @@ returns c =
     let a = c.args in
     let e = a.errors.now in
     let k = c.keep_runs-m in
-    let f : k.result ≤ length k.new.1.0 = omega arith in
-    let u = c.cut_to.new.1.0 in
+    let f : k.result ≤ length k.new.kept = omega arith in
+    let u = c.cut_to.new.kept in
     fills (take a.n u)
-    (kept_are (negative_at e) (size_at e) a.n k.result k.new.1.0 (places_of e) f k.ensures.1
+    (kept_are (negative_at e) (size_at e) a.n k.result k.new.kept (places_of e) f k.ensures.1
     c.if-m-n.false
     c.cut_to.ensures)
     (length-take-le a.n u (omega arith))

@@ -1,9 +1,9 @@
 -- `pruning::errors::weakest_pair` meets its contract. Assumes nothing.
-use mathlib.Core.Logic.{⊎_elim}
 use native.Mathlib.Omega.{arith}
 use Rattle.pruning.specs.Errors.{negative_at, size_at}
 use Rattle.pruning.proofs.RunLaws.{seek_start, seek_lower, seek_keep, seek_end}
 use Rattle.pruning.proofs.errors.weakest_pair.Goals as goal
+use Rattle.pruning.proofs.errors.weakest_pair.Goals.{then-p-v, else-p-v}
 
 pub loop-k-init : goal.loop-k-init
 loop-k-init c =
@@ -22,14 +22,14 @@ loop-k-preserved c =
     let h = c.loop-k-test.true in
     let q = c.size-next.ensures in
     let p = rw (l.invariant.0, q) at c.smaller-p.ensures in
-    ⊎_elim
-    (λ w.
-    rw (w.1, w.2)
-    (q, seek_lower (negative_at e) (size_at e) a.kept.now 0 a.n (omega arith) l.invariant.1 h p w.0.taken))
-    (λ w.
-    rw (w.1, w.2)
-    (q, seek_keep (negative_at e) (size_at e) a.kept.now 0 a.n (omega arith) l.invariant.1 h p w.0.left))
-    c.if-p-v.branch
+    elim c.if-p-v.branch [
+      | then-p-v w ↦
+          rw (w.best-is, w.v-is)
+          (q, seek_lower (negative_at e) (size_at e) a.kept.now 0 a.n (omega arith) l.invariant.1 h p w.if-p-v.true)
+      | else-p-v w ↦
+          rw (w.best-is, w.v-is)
+          (q, seek_keep (negative_at e) (size_at e) a.kept.now 0 a.n (omega arith) l.invariant.1 h p w.if-p-v.false)
+    ]
 
 pub returns : goal.returns
 returns c =

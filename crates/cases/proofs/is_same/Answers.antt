@@ -1,0 +1,21 @@
+-- `cases::is_same` meets its contract. Assumes nothing.
+use mathlib.Core.Path.{sym, ◌∙◌}
+use borrow.Author.Tests.{not-true, not-false}
+use Rattle.cases.proofs.is_same.Goals as goal
+
+pub returns-then-not-is_finite : goal.returns-then-not-is_finite
+returns-then-not-is_finite c = rw (sym c.is_finite.ensures ∙ not-true _ c.if-not-is_finite.true-raw)
+
+pub returns-then-not-is_finite-2 : goal.returns-then-not-is_finite-2
+returns-then-not-is_finite-2 c = rw (
+  sym c.is_finite.ensures ∙ not-false _ c.if-not-is_finite.false-raw,
+  sym c.is_finite-2.ensures ∙ not-true _ c.if-not-is_finite-2.true-raw,
+)
+
+pub returns : goal.returns
+returns c = rw (
+  sym c.is_finite.ensures ∙ not-false _ c.if-not-is_finite.false-raw,
+  sym c.is_finite-2.ensures ∙ not-false _ c.if-not-is_finite-2.false-raw,
+  c.to_word.ensures,
+  c.to_word-2.ensures,
+)
