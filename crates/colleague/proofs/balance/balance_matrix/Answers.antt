@@ -3,6 +3,7 @@ use Prim.Native.Nat.{◌+◌, ◌-◌}
 use mathlib.Core.Path.{◌≡◌, refl}
 use native.Mathlib.Omega.{arith}
 use borrow.Author.Tests.{not-true, not-false}
+use Rattle.colleague.specs.Balance.{Pass}
 use Rattle.colleague.proofs.BalanceLaws.{from_more, from_last, from_none, last_stopped, last_still, last_not}
 use Rattle.colleague.proofs.balance.balance_matrix.Goals as goal
 
@@ -13,7 +14,7 @@ pub returns-then-p : goal.returns-then-p
 returns-then-p c =
     let d = c in
     let k = d.loop-made in
-    let p = passed d in
+    let p : Pass = record { matrix = c.balance_pass-p.new.a; moved = c.balance_pass-p.result.moved; stopped = c.balance_pass-p.result.stopped } in
     from_last (64 - k.made) k.made d.args.n k.a _ p d.balance_pass-p.ensures (omega arith) k.invariant.1
     (last_stopped p.moved p.stopped c.if-p.true)
 
@@ -21,7 +22,7 @@ pub returns-then-not-p : goal.returns-then-not-p
 returns-then-not-p c =
     let d = c in
     let k = d.loop-made in
-    let p = passed d in
+    let p : Pass = record { matrix = c.balance_pass-p.new.a; moved = c.balance_pass-p.result.moved; stopped = c.balance_pass-p.result.stopped } in
     from_last (64 - k.made) k.made d.args.n k.a _ p d.balance_pass-p.ensures (omega arith) k.invariant.1
     (last_still p.moved p.stopped (not-true p.moved c.if-not-p.true))
 
@@ -29,7 +30,7 @@ pub loop-made-preserved : goal.loop-made-preserved
 loop-made-preserved c =
     let d = c in
     let k = d.loop-made in
-    let p = passed d in
+    let p : Pass = record { matrix = c.balance_pass-p.new.a; moved = c.balance_pass-p.result.moved; stopped = c.balance_pass-p.result.stopped } in
     let e : 64 - (k.made + 1) ≡ 64 - k.made - 1 = omega arith in (
       omega arith,
       rw e

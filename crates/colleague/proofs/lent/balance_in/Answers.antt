@@ -1,8 +1,6 @@
 -- `colleague::lent::balance_in` meets its contract. Assumes nothing.
-use mathlib.Core.Path.{◌≡◌, sym, ◌∙◌}
-use mathlib.Core.Bool.{true}
+use mathlib.Core.Path.{sym, ◌∙◌}
 use borrow.Author.Tests.{not-true, not-false}
-use Rattle.colleague.specs.Matrix.{entries_finite}
 use Rattle.colleague.proofs.AnswerLaws.{not_built, over, not_balanced, balanced}
 use Rattle.colleague.proofs.LentLaws.{made, made_none}
 use Rattle.colleague.proofs.lent.balance_in.Goals as goal
@@ -15,14 +13,14 @@ returns-then-not-are_entries_finite c =
 pub returns-in_default : goal.returns-in_default
 returns-in_default c =
     let d = c in
-    made_none (over _ _ _ d.build_in.ensures (let fact : entries_finite d.build_in.new.a ≡ true = sym d.are_entries_finite.ensures ∙ not-false _ d.if-not-are_entries_finite.false-raw in fact) (rw c.in_default.is at d.balance_matrix-passes.ensures))
+    made_none (over _ _ _ d.build_in.ensures (sym d.are_entries_finite.ensures ∙ not-false _ d.if-not-are_entries_finite.false-raw) (rw c.in_default.is at d.balance_matrix-passes.ensures))
 
 pub returns-then-not-are_entries_finite-2 : goal.returns-then-not-are_entries_finite-2
 returns-then-not-are_entries_finite-2 c =
     let k = c in
     let d = k in
     made_none
-    (not_balanced _ _ _ d.build_in.ensures (let fact : entries_finite d.build_in.new.a ≡ true = sym d.are_entries_finite.ensures ∙ not-false _ d.if-not-are_entries_finite.false-raw in fact) _ _ (rw k.in-Made.is at d.balance_matrix-passes.ensures)
+    (not_balanced _ _ _ d.build_in.ensures (sym d.are_entries_finite.ensures ∙ not-false _ d.if-not-are_entries_finite.false-raw) _ _ (rw k.in-Made.is at d.balance_matrix-passes.ensures)
     (sym c.are_entries_finite-2.ensures ∙ not-true _ c.if-not-are_entries_finite-2.true-raw))
 
 pub returns : goal.returns
@@ -30,5 +28,5 @@ returns c =
     let k = c in
     let d = k in
     made
-    (balanced _ _ _ d.build_in.ensures (let fact : entries_finite d.build_in.new.a ≡ true = sym d.are_entries_finite.ensures ∙ not-false _ d.if-not-are_entries_finite.false-raw in fact) _ _ (rw k.in-Made.is at d.balance_matrix-passes.ensures)
+    (balanced _ _ _ d.build_in.ensures (sym d.are_entries_finite.ensures ∙ not-false _ d.if-not-are_entries_finite.false-raw) _ _ (rw k.in-Made.is at d.balance_matrix-passes.ensures)
     (sym c.are_entries_finite-2.ensures ∙ not-false _ c.if-not-are_entries_finite-2.false-raw))
