@@ -10,13 +10,13 @@ loop-i-init c = (refl, seek_start)
 pub returns-then-not-is_in_place : goal.returns-then-not-is_in_place
 returns-then-not-is_in_place c =
     seek_stop c.loop-i.invariant.1 c.loop-i-test.true
-    (ap not (sym c.is_in_place.ensures) ∙ c.if-not-is_in_place.true-raw)
+    (ap not (sym c.is_in_place.ensures ∙ c.if-not-is_in_place.true))
 
 pub loop-i-preserved : goal.loop-i-preserved
 loop-i-preserved c = (
   refl,
   seek_next c.loop-i.invariant.1 c.loop-i-test.true
-      (ap not (sym c.is_in_place.ensures) ∙ c.if-not-is_in_place.false-raw) refl,
+      (ap not (sym c.is_in_place.ensures ∙ c.if-not-is_in_place.false)) refl,
 )
 
 pub returns : goal.returns

@@ -9,11 +9,11 @@ loop-i-init c = seek_start
 
 pub returns-then-not-is_same_at : goal.returns-then-not-is_same_at
 returns-then-not-is_same_at c =
-    seek_stop c.loop-i.invariant c.loop-i-test.true (ap not (sym c.is_same_at.ensures) ∙ c.if-not-is_same_at.true-raw)
+    seek_stop c.loop-i.invariant c.loop-i-test.true (ap not (sym c.is_same_at.ensures ∙ c.if-not-is_same_at.true))
 
 pub loop-i-preserved : goal.loop-i-preserved
 loop-i-preserved c =
-    seek_next c.loop-i.invariant c.loop-i-test.true (ap not (sym c.is_same_at.ensures) ∙ c.if-not-is_same_at.false-raw) refl
+    seek_next c.loop-i.invariant c.loop-i-test.true (ap not (sym c.is_same_at.ensures ∙ c.if-not-is_same_at.false)) refl
 
 pub returns : goal.returns
 returns c = seek_end c.loop-i.invariant c.loop-i-test.false

@@ -4,18 +4,18 @@ use borrow.Author.Tests.{not-true, not-false}
 use Rattle.cases.proofs.is_same.Goals as goal
 
 pub returns-then-not-is_finite : goal.returns-then-not-is_finite
-returns-then-not-is_finite c = rw (sym c.is_finite.ensures ∙ not-true _ c.if-not-is_finite.true-raw)
+returns-then-not-is_finite c = rw (sym c.is_finite.ensures ∙ c.if-not-is_finite.true)
 
 pub returns-then-not-is_finite-2 : goal.returns-then-not-is_finite-2
 returns-then-not-is_finite-2 c = rw (
-  sym c.is_finite.ensures ∙ not-false _ c.if-not-is_finite.false-raw,
-  sym c.is_finite-2.ensures ∙ not-true _ c.if-not-is_finite-2.true-raw,
+  sym c.is_finite.ensures ∙ c.if-not-is_finite.false,
+  sym c.is_finite-2.ensures ∙ c.if-not-is_finite-2.true,
 )
 
 pub returns : goal.returns
 returns c = rw (
-  sym c.is_finite.ensures ∙ not-false _ c.if-not-is_finite.false-raw,
-  sym c.is_finite-2.ensures ∙ not-false _ c.if-not-is_finite-2.false-raw,
+  sym c.is_finite.ensures ∙ c.if-not-is_finite.false,
+  sym c.is_finite-2.ensures ∙ c.if-not-is_finite-2.false,
   c.to_word.ensures,
   c.to_word-2.ensures,
 )

@@ -42,12 +42,12 @@ returns-in-Taken c =
     let written = c in
     let told = written in
     let values = told in
-    coefficients_taken values.args.p-values.now (omega arith) (omega arith) _ _ _ _ (omega arith)
+    coefficients_taken values.args.p_values.now (omega arith) (omega arith) _ _ _ _ (omega arith)
     (filled_is values.needed_list.ensures _ refl told.in-Taken.is) written.coefficients_of.ensures
 
 pub returns-in-Refused : goal.returns-in-Refused
 returns-in-Refused c =
     let values = c in
     fills_none
-    (coefficients_not_taken values.args.p-values.now (omega arith) (omega arith) _ _ (omega arith)
+    (coefficients_not_taken values.args.p_values.now (omega arith) (omega arith) _ _ (omega arith)
     (filled_refused values.needed_list.ensures c.in-Refused.is))

@@ -10,14 +10,14 @@ returns-then-out-src c = fills_none (rw (lt-leb _ _ c.if-out-src.true))
 pub returns-then-not-all_finite : goal.returns-then-not-all_finite
 returns-then-not-all_finite c =
     fills_none
-    (rw (le-leb _ _ c.if-out-src.false, sym c.all_finite.ensures ∙ not-true _ c.if-not-all_finite.true-raw))
+    (rw (le-leb _ _ c.if-out-src.false, sym c.all_finite.ensures ∙ c.if-not-all_finite.true))
 
 pub returns : goal.returns
 returns c =
     fills c.args.src.now
     (rw (
       le-leb _ _ c.if-out-src.false,
-      sym c.all_finite.ensures ∙ not-false _ c.if-not-all_finite.false-raw,
+      sym c.all_finite.ensures ∙ c.if-not-all_finite.false,
     ))
     refl
     c.copy_into.ensures

@@ -4,7 +4,7 @@ use borrow.Author.Tests.{not-true, not-false}
 use Rattle.barycentric.proofs.response.are_finite.Goals as goal
 
 pub returns-then-not-all_finite : goal.returns-then-not-all_finite
-returns-then-not-all_finite c = rw (sym c.all_finite.ensures ∙ not-true _ c.if-not-all_finite.true-raw)
+returns-then-not-all_finite c = rw (sym c.all_finite.ensures ∙ c.if-not-all_finite.true)
 
 pub returns : goal.returns
-returns c = rw (sym c.all_finite.ensures ∙ not-false _ c.if-not-all_finite.false-raw) c.three_finite.ensures
+returns c = rw (sym c.all_finite.ensures ∙ c.if-not-all_finite.false) c.three_finite.ensures

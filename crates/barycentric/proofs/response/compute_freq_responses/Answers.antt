@@ -13,36 +13,36 @@ use Rattle.barycentric.proofs.response.compute_freq_responses.Goals as goal
 
 pub returns-then-not-are_sized_for_list : goal.returns-then-not-are_sized_for_list
 unfolding responses_for
-returns-then-not-are_sized_for_list c = fills_none (rw (sym c.are_sized_for_list.ensures ∙ not-true _ c.if-not-are_sized_for_list.true-raw))
+returns-then-not-are_sized_for_list c = fills_none (rw (sym c.are_sized_for_list.ensures ∙ c.if-not-are_sized_for_list.true))
 
 pub returns-then-not-are_finite : goal.returns-then-not-are_finite
 unfolding responses_for
 returns-then-not-are_finite c =
     fills_none
     (rw (
-      sym c.are_sized_for_list.ensures ∙ not-false _ c.if-not-are_sized_for_list.false-raw,
-      sym c.are_finite.ensures ∙ not-true _ c.if-not-are_finite.true-raw,
+      sym c.are_sized_for_list.ensures ∙ c.if-not-are_sized_for_list.false,
+      sym c.are_finite.ensures ∙ c.if-not-are_finite.true,
     ))
 
 pub slice_bounds-denom-end : goal.slice_bounds-denom-end
 slice_bounds-denom-end c =
-    (places-sized _ _ _ (sym c.are_sized_for_list.ensures ∙ not-false _ c.if-not-are_sized_for_list.false-raw)).most
+    (places-sized _ _ _ (sym c.are_sized_for_list.ensures ∙ c.if-not-are_sized_for_list.false)).most
 
 pub slice_bounds-responses_into-end : goal.slice_bounds-responses_into-end
-slice_bounds-responses_into-end c = sym (length-take-le _ _ ((places-sized _ _ _ (sym c.are_sized_for_list.ensures ∙ not-false _ c.if-not-are_sized_for_list.false-raw)).most))
+slice_bounds-responses_into-end c = sym (length-take-le _ _ ((places-sized _ _ _ (sym c.are_sized_for_list.ensures ∙ c.if-not-are_sized_for_list.false)).most))
 
 pub slice_bounds-numer-end : goal.slice_bounds-numer-end
-slice_bounds-numer-end c = ((places-sized _ _ _ (sym c.are_sized_for_list.ensures ∙ not-false _ c.if-not-are_sized_for_list.false-raw)).most)
+slice_bounds-numer-end c = ((places-sized _ _ _ (sym c.are_sized_for_list.ensures ∙ c.if-not-are_sized_for_list.false)).most)
 
 pub slice_bounds-responses_into-end-2 : goal.slice_bounds-responses_into-end-2
-slice_bounds-responses_into-end-2 c = sym (length-take-le _ _ ((places-sized _ _ _ (sym c.are_sized_for_list.ensures ∙ not-false _ c.if-not-are_sized_for_list.false-raw)).most))
+slice_bounds-responses_into-end-2 c = sym (length-take-le _ _ ((places-sized _ _ _ (sym c.are_sized_for_list.ensures ∙ c.if-not-are_sized_for_list.false)).most))
 
 pub responses_into-requires : goal.responses_into-requires
 responses_into-requires c =
     let t = c in
     let places = t.args.places.now in
-    let f = places-points (length places) _ _ _ _ (sym t.are_sized_for_list.ensures ∙ not-false _ t.if-not-are_sized_for_list.false-raw) in
-    places_begin places _ _ _ ((places-sized _ _ _ (sym t.are_sized_for_list.ensures ∙ not-false _ t.if-not-are_sized_for_list.false-raw)).most) f.two.second f.third
+    let f = places-points (length places) _ _ _ _ (sym t.are_sized_for_list.ensures ∙ t.if-not-are_sized_for_list.false) in
+    places_begin places _ _ _ ((places-sized _ _ _ (sym t.are_sized_for_list.ensures ∙ t.if-not-are_sized_for_list.false)).most) f.two.second f.third
 
 pub slice_bounds-numer-end-2 : goal.slice_bounds-numer-end-2
 slice_bounds-numer-end-2 c =
@@ -65,8 +65,8 @@ returns c =
     let t = p in
     let places = t.args.places.now in
     let k = ap length p.responses_into.ensures ∙ responses_length places _ _ _ in
-    answers (sym t.are_sized_for_list.ensures ∙ not-false _ t.if-not-are_sized_for_list.false-raw)
-    (sym t.are_finite.ensures ∙ not-false _ t.if-not-are_finite.false-raw)
+    answers (sym t.are_sized_for_list.ensures ∙ t.if-not-are_sized_for_list.false)
+    (sym t.are_finite.ensures ∙ t.if-not-are_finite.false)
     p.responses_into.ensures
     k
     (rw (take_at _ _ _ k) at c.needed_list.ensures)

@@ -13,28 +13,28 @@ use Rattle.barycentric.proofs.weights.compute_barycentric_weights.Goals as goal
 
 pub returns-then-not-is_sized_for_weights : goal.returns-then-not-is_sized_for_weights
 unfolding weights_for
-returns-then-not-is_sized_for_weights c = fills_none (rw (sym c.is_sized_for_weights.ensures ∙ not-true _ c.if-not-is_sized_for_weights.true-raw))
+returns-then-not-is_sized_for_weights c = fills_none (rw (sym c.is_sized_for_weights.ensures ∙ c.if-not-is_sized_for_weights.true))
 
 pub returns-then-not-all_finite : goal.returns-then-not-all_finite
 unfolding weights_for
 returns-then-not-all_finite c =
     fills_none
     (rw (
-      sym c.is_sized_for_weights.ensures ∙ not-false _ c.if-not-is_sized_for_weights.false-raw,
-      sym c.all_finite.ensures ∙ not-true _ c.if-not-all_finite.true-raw,
+      sym c.is_sized_for_weights.ensures ∙ c.if-not-is_sized_for_weights.false,
+      sym c.all_finite.ensures ∙ c.if-not-all_finite.true,
     ))
 
 pub slice_bounds-p-end : goal.slice_bounds-p-end
 slice_bounds-p-end c =
-    (weights_fit _ _ (sym c.is_sized_for_weights.ensures ∙ not-false _ c.if-not-is_sized_for_weights.false-raw)).most
+    (weights_fit _ _ (sym c.is_sized_for_weights.ensures ∙ c.if-not-is_sized_for_weights.false)).most
 
 pub slice_bounds-weights_into-end : goal.slice_bounds-weights_into-end
-slice_bounds-weights_into-end c = sym (length-take-le _ _ ((weights_fit _ _ (sym c.is_sized_for_weights.ensures ∙ not-false _ c.if-not-is_sized_for_weights.false-raw)).most))
+slice_bounds-weights_into-end c = sym (length-take-le _ _ ((weights_fit _ _ (sym c.is_sized_for_weights.ensures ∙ c.if-not-is_sized_for_weights.false)).most))
 
 pub weights_into-requires : goal.weights_into-requires
 weights_into-requires c =
     let t = c in
-    let f = weights_fit _ _ (sym t.is_sized_for_weights.ensures ∙ not-false _ t.if-not-is_sized_for_weights.false-raw) in
+    let f = weights_fit _ _ (sym t.is_sized_for_weights.ensures ∙ t.if-not-is_sized_for_weights.false) in
     products_begin t.args.x.now f.low f.most
 
 pub slice_bounds-p-end-2 : goal.slice_bounds-p-end-2
@@ -58,8 +58,8 @@ returns c =
     let t = p in
     let x = t.args.x.now in
     let k = ap length p.weights_into.ensures ∙ weights-length x in
-    answers (sym t.is_sized_for_weights.ensures ∙ not-false _ t.if-not-is_sized_for_weights.false-raw)
-    (sym t.all_finite.ensures ∙ not-false _ t.if-not-all_finite.false-raw)
+    answers (sym t.is_sized_for_weights.ensures ∙ t.if-not-is_sized_for_weights.false)
+    (sym t.all_finite.ensures ∙ t.if-not-all_finite.false)
     p.weights_into.ensures
     k
     (rw (take_at _ _ _ k) at c.needed_list.ensures)

@@ -23,7 +23,7 @@ returns-then-not-is_normal c =
     let g = c.args in
     let n = c.norms_of-norms.ensures in
     row_is g.a.now g.n g.j _ _ c.lower-s.result n.0 n.1 (c.lower-s.ensures ∙ rw c.raise.ensures) Stopped
-    (step_stop _ _ _ c.if-row.false c.if-column.false (sym c.is_normal.ensures ∙ not-true _ c.if-not-is_normal.true-raw))
+    (step_stop _ _ _ c.if-row.false c.if-column.false (sym c.is_normal.ensures ∙ c.if-not-is_normal.true))
 
 pub returns-then-row-scaled : goal.returns-then-row-scaled
 returns-then-row-scaled c =
@@ -31,7 +31,7 @@ returns-then-row-scaled c =
     let n = c.norms_of-norms.ensures in
     let o =
     row_is g.a.now g.n g.j _ _ c.lower-s.result n.0 n.1 (c.lower-s.ensures ∙ rw c.raise.ensures) Moved
-    (step_by _ _ _ c.if-row.false c.if-column.false true (sym c.is_normal.ensures ∙ not-false _ c.if-not-is_normal.false-raw) c.if-row-scaled.true) in
+    (step_by _ _ _ c.if-row.false c.if-column.false true (sym c.is_normal.ensures ∙ c.if-not-is_normal.false) c.if-row-scaled.true) in
     (o.0, c.scale_by.ensures ∙ o.1)
 
 pub returns : goal.returns
@@ -39,4 +39,4 @@ returns c =
     let g = c.args in
     let n = c.norms_of-norms.ensures in
     row_is g.a.now g.n g.j _ _ c.lower-s.result n.0 n.1 (c.lower-s.ensures ∙ rw c.raise.ensures) Still
-    (step_by _ _ _ c.if-row.false c.if-column.false false (sym c.is_normal.ensures ∙ not-false _ c.if-not-is_normal.false-raw) c.if-row-scaled.false)
+    (step_by _ _ _ c.if-row.false c.if-column.false false (sym c.is_normal.ensures ∙ c.if-not-is_normal.false) c.if-row-scaled.false)

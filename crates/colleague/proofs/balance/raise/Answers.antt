@@ -11,13 +11,13 @@ loop-left-init c = refl
 pub returns-then-not-may_raise : goal.returns-then-not-may_raise
 returns-then-not-may_raise c =
     let k = c.loop-left in
-    steps_end (raise_steps _) k.left _ _ k.invariant (omega arith) (sym c.may_raise.ensures ∙ not-true _ c.if-not-may_raise.true-raw)
+    steps_end (raise_steps _) k.left _ _ k.invariant (omega arith) (sym c.may_raise.ensures ∙ c.if-not-may_raise.true)
 
 pub loop-left-preserved : goal.loop-left-preserved
 loop-left-preserved c =
     let b = c in
     let k = b.loop-left in
-    steps_more (raise_steps _) k.left _ _ k.invariant (omega arith) (sym b.may_raise.ensures ∙ not-false _ c.if-not-may_raise.false-raw)
+    steps_more (raise_steps _) k.left _ _ k.invariant (omega arith) (sym b.may_raise.ensures ∙ c.if-not-may_raise.false)
 
 pub returns : goal.returns
 returns c = steps_none (raise_steps _) c.loop-left.left _ _ c.loop-left.invariant (omega arith)

@@ -10,12 +10,12 @@ loop-i-init c = seek_start
 pub returns-then-not-all_finite : goal.returns-then-not-all_finite
 returns-then-not-all_finite c =
     seek_stop c.loop-i.invariant c.loop-i-test.true
-    (ap not (sym c.all_finite.ensures) ∙ c.if-not-all_finite.true-raw)
+    (ap not (sym c.all_finite.ensures ∙ c.if-not-all_finite.true))
 
 pub loop-i-preserved : goal.loop-i-preserved
 loop-i-preserved c =
     seek_next c.loop-i.invariant c.loop-i-test.true
-    (ap not (sym c.all_finite.ensures) ∙ c.if-not-all_finite.false-raw) refl
+    (ap not (sym c.all_finite.ensures ∙ c.if-not-all_finite.false)) refl
 
 pub returns : goal.returns
 returns c = seek_end c.loop-i.invariant c.loop-i-test.false

@@ -18,7 +18,7 @@ loop-i-init c =
     rw c.none-e.ensures (
       refl,
       omega arith,
-      record { within = omega arith; rest = rw sub-zero (keeping (λ i. moved a.symmetry a.odd (band_of a.t1 i)) a.plan.count 0 [] k) },
+      record { within = omega arith; rest = rw sub-zero (keeping (λ i. moved a.symmetry a.odd (band_of a.plan i)) a.plan.count 0 [] k) },
     )
 
 pub loop-i-preserved : goal.loop-i-preserved

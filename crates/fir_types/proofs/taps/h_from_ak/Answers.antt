@@ -8,15 +8,15 @@ use Rattle.fir_types.proofs.taps.h_from_ak.Goals as goal
 
 pub returns-then-not-is_sized_for : goal.returns-then-not-is_sized_for
 unfolding taps_for
-returns-then-not-is_sized_for c = fills_none (rw (sym c.is_sized_for.ensures ∙ not-true _ c.if-not-is_sized_for.true-raw))
+returns-then-not-is_sized_for c = fills_none (rw (sym c.is_sized_for.ensures ∙ c.if-not-is_sized_for.true))
 
 pub returns-then-not-are_taps_in_range : goal.returns-then-not-are_taps_in_range
 unfolding taps_for
 returns-then-not-are_taps_in_range c =
     fills_none
     (rw (
-      sym c.is_sized_for.ensures ∙ not-false _ c.if-not-is_sized_for.false-raw,
-      sym c.are_taps_in_range.ensures ∙ not-true _ c.if-not-are_taps_in_range.true-raw,
+      sym c.is_sized_for.ensures ∙ c.if-not-is_sized_for.false,
+      sym c.are_taps_in_range.ensures ∙ c.if-not-are_taps_in_range.true,
     ))
 
 pub returns-then-not-all_finite : goal.returns-then-not-all_finite
@@ -24,22 +24,22 @@ unfolding taps_for
 returns-then-not-all_finite c =
     fills_none
     (rw (
-      sym c.is_sized_for.ensures ∙ not-false _ c.if-not-is_sized_for.false-raw,
-      sym c.are_taps_in_range.ensures ∙ not-false _ c.if-not-are_taps_in_range.false-raw,
-      sym c.all_finite.ensures ∙ not-true _ c.if-not-all_finite.true-raw,
+      sym c.is_sized_for.ensures ∙ c.if-not-is_sized_for.false,
+      sym c.are_taps_in_range.ensures ∙ c.if-not-are_taps_in_range.false,
+      sym c.all_finite.ensures ∙ c.if-not-all_finite.true,
     ))
 
 pub taps_from-requires : goal.taps_from-requires
 taps_from-requires c =
-    let r = sym c.are_taps_in_range.ensures ∙ not-false _ c.if-not-are_taps_in_range.false-raw in
-    (sized_fitting c.args.symmetry _ c.args.taps _ (sym c.is_sized_for.ensures ∙ not-false _ c.if-not-is_sized_for.false-raw) r, in_range_most c.args.symmetry _ r)
+    let r = sym c.are_taps_in_range.ensures ∙ c.if-not-are_taps_in_range.false in
+    (sized_fitting c.args.symmetry _ c.args.taps _ (sym c.is_sized_for.ensures ∙ c.if-not-is_sized_for.false) r, in_range_most c.args.symmetry _ r)
 
 pub returns : goal.returns
 unfolding taps_for
 returns c =
     rw (
-      sym c.is_sized_for.ensures ∙ not-false _ c.if-not-is_sized_for.false-raw,
-      sym c.are_taps_in_range.ensures ∙ not-false _ c.if-not-are_taps_in_range.false-raw,
-      sym c.all_finite.ensures ∙ not-false _ c.if-not-all_finite.false-raw,
+      sym c.is_sized_for.ensures ∙ c.if-not-is_sized_for.false,
+      sym c.are_taps_in_range.ensures ∙ c.if-not-are_taps_in_range.false,
+      sym c.all_finite.ensures ∙ c.if-not-all_finite.false,
     )
     c.taps_from.ensures

@@ -8,28 +8,28 @@ use Rattle.pruning.proofs.errors.prune_extrema_candidates.Goals as goal
 
 pub returns-then-not-is_sized : goal.returns-then-not-is_sized
 unfolding prune_for
-returns-then-not-is_sized c = fills_none (rw (sym c.is_sized.ensures ∙ not-true _ c.if-not-is_sized.true-raw))
+returns-then-not-is_sized c = fills_none (rw (sym c.is_sized.ensures ∙ c.if-not-is_sized.true))
 
 pub returns-then-not-all_finite : goal.returns-then-not-all_finite
 unfolding prune_for
 returns-then-not-all_finite c =
     fills_none
     (rw (
-      sym c.is_sized.ensures ∙ not-false _ c.if-not-is_sized.false-raw,
-      sym c.all_finite.ensures ∙ not-true _ c.if-not-all_finite.true-raw,
+      sym c.is_sized.ensures ∙ c.if-not-is_sized.false,
+      sym c.all_finite.ensures ∙ c.if-not-all_finite.true,
     ))
 
 pub prune_finite-requires : goal.prune_finite-requires
 prune_finite-requires c =
     let s = c in
-    fitting _ _ _ (sym s.is_sized.ensures ∙ not-false _ s.if-not-is_sized.false-raw)
+    fitting _ _ _ (sym s.is_sized.ensures ∙ s.if-not-is_sized.false)
 
 pub returns : goal.returns
 unfolding prune_for
 returns c =
     let s = c in
     rw (
-      sym s.is_sized.ensures ∙ not-false _ s.if-not-is_sized.false-raw,
-      sym s.all_finite.ensures ∙ not-false _ s.if-not-all_finite.false-raw,
+      sym s.is_sized.ensures ∙ s.if-not-is_sized.false,
+      sym s.all_finite.ensures ∙ s.if-not-all_finite.false,
     )
     c.prune_finite.ensures
