@@ -22,7 +22,7 @@ decreases-loop e₀ i₀ e i = 8 - i
 
 loop-holds : tie.Need-loop-init invariant-loop decreases-loop
 loop-holds c =
-    let k : length c.args.bands.list ≡ 8 = sym (length-map c.args.bands.list _) ∙ c.well-formed.0.1.1.0.1.0.1 in
+    let k : length c.args.bands.list ≡ 8 = search rules in
     (k, refl, map_here in_radians (interval nan nan) 8 c.args.bands.list k)
 
 mul-b : tie.Need-overflow-mul-b invariant-loop decreases-loop
