@@ -15,9 +15,9 @@ pub returns-in-Refused : goal.returns-in-Refused
 returns-in-Refused c =
     let g = c.args in
     let k = c.loop-i in
-    let l : length (take g.count g.t8) ≡ g.count = length-take-le g.count g.t8 k.invariant.3 in
+    let l : length (take g.count g.list) ≡ g.count = length-take-le g.count g.list k.invariant.3 in
     record {
-      is = turn_stop _ _ (get_or-take g.count g.t8 k.i _ (omega arith)) (omega arith) k.invariant.4 c.add_inside.ensures c.in-Refused.is;
+      is = turn_stop _ _ (get_or-take g.count g.list k.i _ (omega arith)) (omega arith) k.invariant.4 c.add_inside.ensures c.in-Refused.is;
       most = omega arith;
       long = search rules;
     }
@@ -26,19 +26,19 @@ pub loop-i-preserved : goal.loop-i-preserved
 loop-i-preserved c =
     let g = c.args in
     let k = c.loop-i in
-    let l : length (take g.count g.t8) ≡ g.count = length-take-le g.count g.t8 k.invariant.3 in
+    let l : length (take g.count g.list) ≡ g.count = length-take-le g.count g.list k.invariant.3 in
     let a = c.add_inside.ensures in
     let e = c.in-Of.is in (
       omega arith,
       omega (arith, stage_most a e),
       search rules,
       k.invariant.3,
-      turn_next _ _ (get_or-take g.count g.t8 k.i _ (omega arith)) (omega arith) k.invariant.4 a e,
+      turn_next _ _ (get_or-take g.count g.list k.i _ (omega arith)) (omega arith) k.invariant.4 a e,
     )
 
 pub returns : goal.returns
 returns c =
     let g = c.args in
     let k = c.loop-i in
-    let l : length (take g.count g.t8) ≡ g.count = length-take-le g.count g.t8 k.invariant.3 in
+    let l : length (take g.count g.list) ≡ g.count = length-take-le g.count g.list k.invariant.3 in
     record { is = sweeps_end k.invariant.4 (omega arith); most = omega arith; long = k.invariant.2 }

@@ -16,17 +16,17 @@ pub returns-in-Refused : goal.returns-in-Refused
 returns-in-Refused c =
     let g = c.args in
     let k = c.loop-i in
-    let l : length (take g.count g.t1) ≡ g.count = length-take-le g.count g.t1 k.invariant.5 in
+    let l : length (take g.count g.list) ≡ g.count = length-take-le g.count g.list k.invariant.5 in
     let a = c.mark_ends.ensures in
     behind_stop
-    (turn_stop _ _ (get_or-take g.count g.t1 k.i _ (omega arith)) (omega arith) k.invariant.6 a.stage c.in-Refused.is)
+    (turn_stop _ _ (get_or-take g.count g.list k.i _ (omega arith)) (omega arith) k.invariant.6 a.stage c.in-Refused.is)
     (front_stays g.words.now _ _ k.invariant.1 k.invariant.3 a.front) (a.stage.long ∙ k.invariant.4)
 
 pub loop-i-preserved : goal.loop-i-preserved
 loop-i-preserved c =
     let g = c.args in
     let k = c.loop-i in
-    let l : length (take g.count g.t1) ≡ g.count = length-take-le g.count g.t1 k.invariant.5 in
+    let l : length (take g.count g.list) ≡ g.count = length-take-le g.count g.list k.invariant.5 in
     let a = c.mark_ends.ensures in
     let e = c.in-Of.is in (
       omega arith,
@@ -35,12 +35,12 @@ loop-i-preserved c =
       front_stays g.words.now _ _ k.invariant.1 k.invariant.3 a.front,
       a.stage.long ∙ k.invariant.4,
       k.invariant.5,
-      turn_next _ _ (get_or-take g.count g.t1 k.i _ (omega arith)) (omega arith) k.invariant.6 a.stage e,
+      turn_next _ _ (get_or-take g.count g.list k.i _ (omega arith)) (omega arith) k.invariant.6 a.stage e,
     )
 
 pub returns : goal.returns
 returns c =
     let g = c.args in
     let k = c.loop-i in
-    let l : length (take g.count g.t1) ≡ g.count = length-take-le g.count g.t1 k.invariant.5 in
+    let l : length (take g.count g.list) ≡ g.count = length-take-le g.count g.list k.invariant.5 in
     behind_of (sweeps_end k.invariant.6 (omega arith)) k.invariant.1 (omega arith) k.invariant.3 k.invariant.4

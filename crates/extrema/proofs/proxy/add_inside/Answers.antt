@@ -1,4 +1,5 @@
 -- `extrema::proxy::add_inside` meets its contract. Assumes nothing.
+use Prim.Native.Nat.{◌≤◌}
 use mathlib.Core.Path.{◌≡◌, sym}
 use native.Mathlib.Omega.{arith}
 use lib.ListN.{length}
@@ -19,16 +20,16 @@ slice_bounds-add_candidates-end c = sym (length-take-le _ _ (let z = listed_most
 
 pub add_candidates-requires : goal.add_candidates-requires
 add_candidates-requires c = let z = listed_most c.places_inside.ensures c.in-Of.is in
-    let l = length-take-le _ c.places_inside.new.out (let z = listed_most c.places_inside.ensures c.in-Of.is in
     let q : length c.places_inside.new.out ≡ 15 = search rules in
-    omega (arith, z, q)) in
+    let s : c.in-Of.k ≤ length c.places_inside.new.out = omega (arith, z, q) in
+    let l = length-take-le _ _ s in
     (omega (arith, l, z), omega (arith, l, z))
 
 pub returns-in-Of : goal.returns-in-Of
 returns-in-Of c = let z = listed_most c.places_inside.ensures c.in-Of.is in
-    let l = length-take-le _ c.places_inside.new.out (let z = listed_most c.places_inside.ensures c.in-Of.is in
     let q : length c.places_inside.new.out ≡ 15 = search rules in
-    omega (arith, z, q)) in
+    let s : c.in-Of.k ≤ length c.places_inside.new.out = omega (arith, z, q) in
+    let l = length-take-le _ _ s in
     stage_inside _ _ _ _ (listed_is c.places_inside.ensures c.in-Of.is) (omega (arith, l, z)) c.add_candidates.ensures
 
 pub returns-in-Refused : goal.returns-in-Refused
