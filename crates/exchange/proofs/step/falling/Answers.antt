@@ -1,0 +1,23 @@
+-- `exchange::step::falling` meets its contract. Assumes nothing.
+use Prim.Native.Nat.{◌≤◌}
+use mathlib.Core.Path.{refl}
+use lib.ListN.{length, length-set}
+use Rattle.numbers.proofs.LoopLaws.{next, end, fill_start}
+use Rattle.exchange.proofs.StepLaws.{falling_is}
+use borrow.Author.Rules.{rules}
+use Rattle.exchange.proofs.step.falling.Goals as goal
+
+pub loop-i-init : goal.loop-i-init
+loop-i-init c = (refl, fill_start _ _ _ (search rules))
+
+pub loop-i-preserved : goal.loop-i-preserved
+loop-i-preserved c = (
+  simp length-set c.loop-i.invariant.0,
+  next c.loop-i.invariant.1 (search rules) refl,
+)
+
+pub returns : goal.returns
+returns c =
+    let a = c.args in
+    let h : a.n ≤ length a.list = search rules in
+    rw (end c.loop-i.invariant.1 (search rules)) (falling_is a.list a.n h)
