@@ -3,6 +3,7 @@ use mathlib.Core.Path.{◌≡◌, sym, ap, ◌∙◌}
 use native.Mathlib.Omega.{arith}
 use lib.ListN.{length}
 use lib.Seq.{length-take-le}
+use Rattle.exchange.specs.Job.{held_of}
 use Rattle.exchange.specs.Step.{settled}
 use borrow.Author.Rules.{rules}
 use Rattle.exchange.proofs.step.run.Goals as goal
@@ -32,4 +33,4 @@ slice_bounds-exchange-end-3 c =
     sym (length-take-le c.args.i.count c.args.i.abscissas (omega (arith, c.requires.1, l)))
 
 pub returns : goal.returns
-returns c = c.settle.ensures ∙ ap (settled _) c.exchange-m.ensures
+returns c = c.settle.ensures ∙ ap (settled (held_of c.args.job)) c.exchange-m.ensures

@@ -1,0 +1,15 @@
+-- `image::writing::put_head` meets its contract. Assumes nothing.
+use mathlib.Core.Path.{refl}
+use Rattle.image.specs.Bytes.{bytes_of}
+use Rattle.image.specs.Image.{start_of, word_part, parts}
+use Rattle.image.proofs.Laying.{Laid, laid_more, words_length}
+use Rattle.image.proofs.writing.put_head.Goals as goal
+
+pub returns : goal.returns
+unfolding bytes_of parts
+returns c =
+    let g = c.args in
+    let w = g.w.now in
+    let s : Laid g.out.now 0 8 (start_of w) c.put_start.new.out = record { is = c.put_start.ensures; long = refl } in
+    let n = laid_more (parts (word_part w 2 1) 4 0) s refl (words_length w 2 1 4) c.put_words.ensures in
+    (laid_more (parts (word_part w 6 8) 2 0) n refl (words_length w 6 8 2) c.put_words-2.ensures).is
