@@ -74,8 +74,8 @@ pub fn decode(bytes: &[u8]) -> Decoded
 
 // The points of an image: that very part of its bytes; for bytes that 14 refuses the empty part at their start.
 pub fn points(bytes: &[u8]) -> &[u8]
-    ensures result_value { result.now ≡ points_part bytes.now }
-    ensures ref_ptr_value { (result.ref_ptr.0 ≡ bytes.entry.ref_ptr.0) × (result.ref_ptr.1 ≡ points_part_at bytes.now + bytes.entry.ref_ptr.1) }
+    ensures contents { result.now ≡ points_part bytes.now }
+    ensures place { (result.ref_ptr.0 ≡ bytes.entry.ref_ptr.0) × (result.ref_ptr.1 ≡ points_part_at bytes.now + bytes.entry.ref_ptr.1) }
 {
     if layout::has_layout(bytes) {
         let a = 28 + 50 * layout::count_in(bytes);

@@ -15,7 +15,7 @@ returns-then-not-is_head_laid c = rw (sym c.is_head_laid.ensures ∙ c.if-not-is
 pub returns-then-s-n : goal.returns-then-s-n
 unfolding layout
 returns-then-s-n c =
-    rw (sym c.is_head_laid.ensures ∙ c.if-not-is_head_laid.false, ← c.count_in-n.ensures.0, ← c.points_in.ensures.0, ne_eqb _ _ c.if-s-n.true)
+    rw (sym c.is_head_laid.ensures ∙ c.if-not-is_head_laid.false, ← c.count_in-n.ensures.0, ← c.points_in.ensures.value, ne_eqb _ _ c.if-s-n.true)
 
 pub are_bands_laid-requires : goal.are_bands_laid-requires
 are_bands_laid-requires c =
@@ -28,6 +28,6 @@ unfolding layout
 returns c =
     let s = c.args.s.now in
     let count = c.count_in-n.ensures.0 in
-    let f : length s ≡ length_for (count_in s) (points_in s) = c.if-s-n.false ∙ rw (count, c.points_in.ensures.0) in
+    let f : length s ≡ length_for (count_in s) (points_in s) = c.if-s-n.false ∙ rw (count, c.points_in.ensures.value) in
     rw (sym c.is_head_laid.ensures ∙ c.if-not-is_head_laid.false, eq-eqb _ _ f)
     (c.are_bands_laid.ensures ∙ ap (every (band_laid s)) count)

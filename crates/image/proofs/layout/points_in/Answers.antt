@@ -7,7 +7,7 @@ pub returns : goal.returns
 returns c =
     let made = c.byte_at-made in
     let taps = c.two_at-taps in
-    let symmetry = c.symmetry_of in (
-      rw (c.points_for.ensures, symmetry.ensures, c.byte_at.ensures.0, taps.ensures.0, made.ensures.0),
-      omega (arith, c.points_for.ensures, points_few made.result taps.result symmetry.result, taps.ensures.1),
-    )
+    let symmetry = c.symmetry_of in record {
+      value = rw (c.points_for.ensures, symmetry.ensures, c.byte_at.ensures.0, taps.ensures.0, made.ensures.0);
+      upper_bound = omega (arith, c.points_for.ensures, points_few made.result taps.result symmetry.result, taps.ensures.1);
+    }

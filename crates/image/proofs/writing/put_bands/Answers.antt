@@ -17,7 +17,7 @@ pub loop-i-preserved : goal.loop-i-preserved
 loop-i-preserved c =
     let l = c.loop-i in
     let p = c.put_band in
-    (p.auto.1.1.0 ∙ l.invariant.0, part_next l.invariant.1 c.loop-i-test.true (band_length c.args.w.now l.i) p.ensures)
+    (p.auto.out ∙ l.invariant.0, part_next l.invariant.1 c.loop-i-test.true (band_length c.args.w.now l.i) p.ensures)
 
 pub returns : goal.returns
 returns c = part_end c.loop-i.invariant.1 c.loop-i-test.false

@@ -30,7 +30,7 @@ loop-i-preserved c =
     let l = c.loop-i in
     let p = c.put in (
       rw (add-one, mul-suc) (omega (arith, l.invariant.0)),
-      p.auto.0 ∙ l.invariant.1,
+      p.auto.out ∙ l.invariant.1,
       part_next l.invariant.2 c.loop-i-test.true (bytes_length _ _) (rw l.invariant.0 at p.ensures),
     )
 
