@@ -1,3 +1,4 @@
+-- As many bytes as were read are at the front of the room; each turn reads a byte or more.
 use Rattle.std.proofs.Common.{length, ◌-◌, ◌≤◌}
 use Rattle.leaf_values.proofs.read_full.Given as goal
 
