@@ -15,7 +15,6 @@ use Rattle.angle_values.specs.declared.list.Named.{Named}
 use Rattle.angle_values.specs.declared.list.Named.TheVariants as named
 use Rattle.angle_values.specs.declared.list.Numeral.{Numeral}
 use Rattle.angle_values.specs.declared.list.Numeral.TheVariants as numeral
-use Rattle.angle_values.specs.declared.list.Case.{Case}
 use Rattle.angle_values.specs.declared.list.Line.{Line}
 use Rattle.angle_values.specs.declared.list.Line.TheVariants as line
 

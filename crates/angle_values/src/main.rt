@@ -1,11 +1,14 @@
 // Compares the angle functions with the host's values at the places of the stored list on standard input.
 #![tactic(auto)]
 
+ghost use Rattle.std.specs.Prelude.{◌≤◌, length, IfOk};
+
 mod list;
 mod verdicts;
 
-use libc::{STDIN_FILENO, STDOUT_FILENO};
 use list::{Case, Function, Line};
+use std::io;
+use std::io::Read;
 use verdicts::Verdict;
 
 // The list has to be shorter.
@@ -56,27 +59,37 @@ struct Judged {
     arccosine: Tally,
 }
 
-fn say(words: &[u8]) {
-    io::write_all(STDOUT_FILENO, words);
+// Until the input ends or the room is full; how many bytes were read.
+fn read_full(input: &mut impl Read, room: &mut [u8]) -> io::Result<usize>
+    ensures { IfOk result (λ n. n ≤ length room.new) }
+{
+    let mut n = 0;
+    while n < room.len() {
+        let k = input.read(&mut room[n..])?;
+        if k == 0 {
+            break;
+        }
+        n += k;
+    }
+    Ok(n)
 }
 
-fn fault(s: &[u8], at: usize, what: &[u8]) {
-    say(b"line ");
-    io::print_decimal(STDOUT_FILENO, list::line_number(s, at));
-    say(b": ");
-    say(what);
-    say(b"\n");
+fn say(rt: &impl Print, words: &[u8]) -> io::Result<()> {
+    rt.write_all(words)
 }
 
-fn report(name: &[u8], t: Tally) {
-    say(name);
-    say(b": ");
-    io::print_decimal(STDOUT_FILENO, t.places);
-    say(b" places, ");
-    io::print_decimal(STDOUT_FILENO, t.near);
-    say(b" within 2^-50, ");
-    io::print_decimal(STDOUT_FILENO, t.same);
-    say(b" with the host's very bits\n");
+fn fault(rt: &impl Print, s: &[u8], at: usize, what: &[u8]) -> io::Result<()> {
+    print!(rt; "line {}: ", list::line_number(s, at))?;
+    say(rt, what)?;
+    say(rt, b"\n")
+}
+
+fn report(rt: &impl Print, name: &[u8], t: Tally) -> io::Result<()> {
+    say(rt, name)?;
+    println!(rt;
+        ": {} places, {} within 2^-50, {} with the host's very bits",
+        t.places, t.near, t.same
+    )
 }
 
 impl Judged {
@@ -127,48 +140,48 @@ impl Judged {
         }
     }
 
-    fn judge(self, s: &[u8], c: Case, from: usize, to: usize) -> Self {
+    fn judge(self, rt: &impl Print, s: &[u8], c: Case, from: usize, to: usize) -> io::Result<Self> {
         let f = c.function;
         match verdicts::judged(c) {
-            Verdict::Same => self.compared(f, true, true, to),
-            Verdict::Near => self.compared(f, true, false, to),
+            Verdict::Same => Ok(self.compared(f, true, true, to)),
+            Verdict::Near => Ok(self.compared(f, true, false, to)),
             Verdict::Far => {
-                fault(s, from, b"farther than 2^-50 from the host's value");
-                self.compared(f, false, false, to).faulty(to)
+                fault(rt, s, from, b"farther than 2^-50 from the host's value")?;
+                Ok(self.compared(f, false, false, to).faulty(to))
             }
             Verdict::Refused => {
-                fault(s, from, b"refused");
-                self.compared(f, false, false, to).faulty(to)
+                fault(rt, s, from, b"refused")?;
+                Ok(self.compared(f, false, false, to).faulty(to))
             }
         }
     }
 
-    fn step(self, s: &[u8]) -> Self {
+    fn step(self, rt: &impl Print, s: &[u8]) -> io::Result<Self> {
         let at = self.at;
         match list::read(s, at) {
-            Line::Asks(c, from, to) => self.judge(s, c, from, to),
+            Line::Asks(c, from, to) => self.judge(rt, s, c, from, to),
             Line::Malformed(from) => {
-                fault(s, from, b"malformed");
-                self.faulty(list::line_end(s, from))
+                fault(rt, s, from, b"malformed")?;
+                Ok(self.faulty(list::line_end(s, from)))
             }
-            Line::End => self.over(),
+            Line::End => Ok(self.over()),
         }
     }
 }
 
 // Every turn but the last passes a byte or more.
-fn whole_list(s: &[u8]) -> Judged {
+fn whole_list(rt: &impl Print, s: &[u8]) -> io::Result<Judged> {
     let mut so_far = Judged::new();
     let mut turns = s.len();
     while turns > 0 {
-        let next = so_far.step(s);
+        let next = so_far.step(rt, s)?;
         if next.is_over {
-            return next;
+            return Ok(next);
         }
         so_far = next;
         turns -= 1;
     }
-    so_far
+    Ok(so_far)
 }
 
 fn is_good(j: Judged) -> bool {
@@ -187,20 +200,19 @@ fn is_good(j: Judged) -> bool {
     c.places != 0
 }
 
-fn main() {
+fn main(rt: HostRuntime) -> io::Result<()> {
     let mut room = [0u8; ROOM];
-    let n = io::read_full(STDIN_FILENO, &mut room);
+    let n = read_full(&mut rt.stdin(), &mut room)?;
     if n == ROOM {
-        say(b"WRONG: the list fills the program's room\n");
-        return;
+        return say(&rt, b"WRONG: the list fills the program's room\n");
     }
-    let j = whole_list(&room[..n]);
-    report(b"cosine", j.cosine);
-    report(b"sine", j.sine);
-    report(b"arccosine", j.arccosine);
+    let j = whole_list(&rt, &room[..n])?;
+    report(&rt, b"cosine", j.cosine)?;
+    report(&rt, b"sine", j.sine)?;
+    report(&rt, b"arccosine", j.arccosine)?;
     if is_good(j) {
-        say(b"ok\n");
+        say(&rt, b"ok\n")
     } else {
-        say(b"WRONG\n");
+        say(&rt, b"WRONG\n")
     }
 }

@@ -1,6 +1,8 @@
 // Designs the filters that standard input asks for. A request followed by an answer of pm-remez is compared with it, bit for bit.
 #![tactic(auto)]
 
+ghost use Rattle.std.specs.Prelude.{◌≤◌, length, IfOk};
+
 mod asking;
 mod judging;
 mod page;
@@ -10,8 +12,9 @@ mod tally;
 
 use asking::Asked;
 use judging::Judged;
-use libc::STDIN_FILENO;
 use saying::{say, say_whole};
+use std::io;
+use std::io::Read;
 use tally::Tally;
 use text::Token;
 
@@ -19,88 +22,110 @@ use text::Token;
 const ROOM: usize = 524288;
 
 // Which of the requests that are compared, counted from 0, and what came of it here.
-fn say_case(t: Tally, n: u64, made: usize) {
-    say_whole(t.asked);
+fn say_case(rt: &impl Print, t: Tally, n: u64, made: usize) -> io::Result<()> {
+    say_whole(rt, t.asked)?;
     if n == 0 {
-        say(b": a design\n");
+        say(rt, b": a design\n")
     } else {
-        say(b": refused with ");
-        say_whole(n);
-        say(b" after exchange ");
-        say_whole(made as u64);
-        say(b"\n");
+        say(rt, b": refused with ")?;
+        say_whole(rt, n)?;
+        say(rt, b" after exchange ")?;
+        say_whole(rt, made as u64)?;
+        say(rt, b"\n")
     }
 }
 
-fn say_difference(judged: Judged, t: Tally, n: u64, made: usize) {
+fn say_difference(
+    rt: &impl Print,
+    judged: Judged,
+    t: Tally,
+    n: u64,
+    made: usize,
+) -> io::Result<()> {
     match judged {
         Judged::Wrong => {
-            say(b"WRONG: request ");
-            say_case(t, n, made);
+            say(rt, b"WRONG: request ")?;
+            say_case(rt, t, n, made)
         }
         Judged::WentOn => {
-            say(b"pm-remez goes on: request ");
-            say_case(t, n, made);
+            say(rt, b"pm-remez goes on: request ")?;
+            say_case(rt, t, n, made)
         }
-        _ => (),
+        _ => Ok(()),
     }
 }
 
 // A request that could be read: printed, or compared with the answer that follows it.
-fn done(s: &[u8], asked: Asked, t: Tally) -> Tally {
+fn done(rt: &impl Print, s: &[u8], asked: Asked, t: Tally) -> io::Result<Tally> {
     let accepted = asked.accepted;
     let title = asked.title;
     let mut taps = [0.0; 128];
     let mut freqs = [0.0; 65];
     let run = running::design(accepted, &mut taps, &mut freqs);
     if !judging::is_word(s, asked.at, b"answer") {
-        page::say_design(title, run, &taps, &freqs);
-        return t;
+        page::say_design(rt, title, run, &taps, &freqs)?;
+        return Ok(t);
     }
     let at = cases::past(s, asked.at);
     let judged = judging::beside(s, at, title, run, &taps, &freqs);
-    say_difference(judged, t, run.refusal, run.made);
-    tally::with(t, judged, title, run)
+    say_difference(rt, judged, t, run.refusal, run.made)?;
+    Ok(tally::with(t, judged, title, run))
 }
 
-fn answered(s: &[u8], at: usize, t: Tally) -> Tally {
+fn answered(rt: &impl Print, s: &[u8], at: usize, t: Tally) -> io::Result<Tally> {
     let a = asking::asked_at(s, at);
     if a.good {
-        done(s, a, t)
+        done(rt, s, a, t)
     } else {
-        say(b"WRONG: a request that cannot be read\n");
-        t
+        say(rt, b"WRONG: a request that cannot be read\n")?;
+        Ok(t)
     }
 }
 
 // Word after word: every turn passes one.
-fn tallied(s: &[u8]) -> Tally {
+fn tallied(rt: &impl Print, s: &[u8]) -> io::Result<Tally> {
     let mut t = tally::none();
     let mut at: usize = 0;
     let mut turns = s.len();
     while turns > 0 {
         let Token::Word(from, to) = text::next(s, at) else {
-            return t;
+            return Ok(t);
         };
         if text::is(s, from, to, b"request") {
-            let u = answered(s, to, t);
+            let u = answered(rt, s, to, t)?;
             t = u;
         }
         at = to;
         turns -= 1;
     }
-    t
+    Ok(t)
 }
 
-fn main() {
-    let mut room = [0u8; ROOM];
-    let n = io::read_full(STDIN_FILENO, &mut room);
-    if n == ROOM {
-        say(b"WRONG: the requests fill the program's room\n");
-        return;
+// Until the input ends or the room is full; how many bytes were read.
+fn read_full(input: &mut impl Read, room: &mut [u8]) -> io::Result<usize>
+    ensures { IfOk result (λ n. n ≤ length room.new) }
+{
+    let mut n = 0;
+    while n < room.len() {
+        let k = input.read(&mut room[n..])?;
+        if k == 0 {
+            break;
+        }
+        n += k;
     }
-    let t = tallied(&room[..n]);
+    Ok(n)
+}
+
+fn main(rt: HostRuntime) -> io::Result<()> {
+    let mut room = [0u8; ROOM];
+    let n = read_full(&mut rt.stdin(), &mut room)?;
+    if n == ROOM {
+        return say(&rt, b"WRONG: the requests fill the program's room\n");
+    }
+    let t = tallied(&rt, &room[..n])?;
     if 0 < t.asked {
-        tally::say_tally(t);
+        tally::say_tally(&rt, t)
+    } else {
+        Ok(())
     }
 }

@@ -1,12 +1,12 @@
 // Numbers for a person: 12 decimal places, and the 16 digits of the bits.
-use libc::STDOUT_FILENO;
+use std::io;
 
-pub(crate) fn say(words: &[u8]) {
-    io::write_all(STDOUT_FILENO, words);
+pub(crate) fn say(rt: &impl Print, words: &[u8]) -> io::Result<()> {
+    rt.write_all(words)
 }
 
-pub(crate) fn say_whole(n: u64) {
-    io::print_decimal(STDOUT_FILENO, n);
+pub(crate) fn say_whole(rt: &impl Print, n: u64) -> io::Result<()> {
+    print!(rt; "{n}")
 }
 
 // A digit, and what is left below 1.
@@ -30,22 +30,23 @@ fn peel(x: f64) -> Peeled {
 }
 
 // A number from 0 to below 10.
-fn say_places(x: f64) {
+fn say_places(rt: &impl Print, x: f64) -> io::Result<()> {
     let p = peel(x);
-    say_whole(p.digit);
-    say(b".");
+    say_whole(rt, p.digit)?;
+    say(rt, b".")?;
     let mut rest = p.rest;
     let mut places: usize = 12;
     while places > 0 {
         let q = peel(rest * 10.0);
-        say_whole(q.digit);
+        say_whole(rt, q.digit)?;
         rest = q.rest;
         places -= 1;
     }
+    Ok(())
 }
 
 // A number with its power of ten.
-fn say_large(x: f64) {
+fn say_large(rt: &impl Print, x: f64) -> io::Result<()> {
     let mut rest = x;
     let mut power: u64 = 0;
     while power < 308 {
@@ -55,24 +56,24 @@ fn say_large(x: f64) {
         rest = rest / 10.0;
         power += 1;
     }
-    say_places(rest + 0.0000000000005);
-    say(b"e");
-    say_whole(power);
+    say_places(rt, rest + 0.0000000000005)?;
+    say(rt, b"e")?;
+    say_whole(rt, power)
 }
 
 // Rounded to 12 places; from 10 on with a power of ten. Then its bits.
-pub(crate) fn say_number(x: f64) {
+pub(crate) fn say_number(rt: &impl Print, x: f64) -> io::Result<()> {
     if x < 0.0 {
-        say(b"-");
+        say(rt, b"-")?;
     } else {
-        say(b" ");
+        say(rt, b" ")?;
     }
     let m = numbers::magnitude(x);
     if m < 9.9999999999995 {
-        say_places(m + 0.0000000000005);
+        say_places(rt, m + 0.0000000000005)?;
     } else {
-        say_large(m);
+        say_large(rt, m)?;
     }
-    say(b"  ");
-    io::print_hex(STDOUT_FILENO, numbers::to_word(x), 16);
+    say(rt, b"  ")?;
+    print!(rt; "{:016x}", numbers::to_word(x))
 }

@@ -3,6 +3,7 @@ use crate::asking::Title;
 use crate::judging::Judged;
 use crate::running::Run;
 use crate::saying::{say, say_whole};
+use std::io;
 
 #[derive(Clone, Copy)]
 pub(crate) struct Tally {
@@ -102,42 +103,48 @@ pub(crate) fn with(t: Tally, judged: Judged, title: Title, run: Run) -> Tally {
     }
 }
 
-fn say_count(n: u64, words: &[u8]) {
-    say_whole(n);
-    say(words);
+fn say_count(rt: &impl Print, n: u64, words: &[u8]) -> io::Result<()> {
+    say_whole(rt, n)?;
+    say(rt, words)
 }
 
-pub(crate) fn say_tally(t: Tally) {
-    say_count(t.asked, b" requests beside pm-remez\n");
-    say_count(t.same, b" designs with its very bits: ");
-    say_count(t.converged, b" converged, ");
-    say_count(t.budget_used, b" used their budget, ");
-    say_count(t.none_allowed, b" with no exchange allowed\n");
+pub(crate) fn say_tally(rt: &impl Print, t: Tally) -> io::Result<()> {
+    say_count(rt, t.asked, b" requests beside pm-remez\n")?;
+    say_count(rt, t.same, b" designs with its very bits: ")?;
+    say_count(rt, t.converged, b" converged, ")?;
+    say_count(rt, t.budget_used, b" used their budget, ")?;
+    say_count(rt, t.none_allowed, b" with no exchange allowed\n")?;
     say_count(
+        rt,
         t.response,
         b" refused with 7 where it has InvalidResponse\n",
-    );
-    say_count(t.edges, b" refused with 8 where it panics\n");
+    )?;
+    say_count(rt, t.edges, b" refused with 8 where it panics\n")?;
     say_count(
+        rt,
         t.not_finite,
         b" refused with 9 where it has EigenvaluesError or a number that is not finite\n",
-    );
+    )?;
     say_count(
+        rt,
         t.derivative,
         b" refused with 10 where it has ProxyDerivativeZero\n",
-    );
+    )?;
     say_count(
+        rt,
         t.extrema,
         b" refused with 13 where it has NotEnoughExtrema\n",
-    );
+    )?;
     say_count(
+        rt,
         t.one_coefficient,
         b" with a derivative of one coefficient, where it panics\n",
-    );
+    )?;
     say_count(
+        rt,
         t.removed,
         b" that differ after a band of no length, which it keeps\n",
-    );
-    say_count(t.went_on, b" refused with 9 or 11 where it goes on\n");
-    say_count(t.wrong, b" that differ otherwise\n");
+    )?;
+    say_count(rt, t.went_on, b" refused with 9 or 11 where it goes on\n")?;
+    say_count(rt, t.wrong, b" that differ otherwise\n")
 }

@@ -1,6 +1,8 @@
 // Runs the leaves on the stored list of cases and compares them, bit for bit, with what pm-remez answered.
 #![tactic(auto)]
 
+ghost use Rattle.std.specs.Prelude.{◌≤◌, length, IfOk};
+
 mod filters;
 mod interpolation;
 mod judging;
@@ -11,15 +13,31 @@ mod reading;
 use filters::{adjusted, edges, lookup, radians, realizable, taps};
 use interpolation::{abscissas, delta, response, weights};
 use judging::{Found, bad};
-use libc::{STDIN_FILENO, STDOUT_FILENO};
 use polynomials::{coefficients, nodes};
+use std::io;
+use std::io::Read;
 use text::Token;
 
 // The list has to be shorter.
 const ROOM: usize = 524288;
 
-fn say(words: &[u8]) {
-    io::write_all(STDOUT_FILENO, words);
+// Until the input ends or the room is full; how many bytes were read.
+fn read_full(input: &mut impl Read, room: &mut [u8]) -> io::Result<usize>
+    ensures { IfOk result (λ n. n ≤ length room.new) }
+{
+    let mut n = 0;
+    while n < room.len() {
+        let k = input.read(&mut room[n..])?;
+        if k == 0 {
+            break;
+        }
+        n += k;
+    }
+    Ok(n)
+}
+
+fn say(rt: &impl Print, words: &[u8]) -> io::Result<()> {
+    rt.write_all(words)
 }
 
 // A leaf by its name, with lists to read into; the others are passed over.
@@ -138,18 +156,17 @@ fn counted(s: &[u8], name: &[u8]) -> Tally {
 }
 
 // The leaf's line; whether every case agrees.
-fn reported(s: &[u8], name: &[u8]) -> bool {
+fn reported(rt: &impl Print, s: &[u8], name: &[u8]) -> io::Result<bool> {
     let t = counted(s, name);
-    say(name);
-    say(b": ");
-    io::print_decimal(STDOUT_FILENO, t.cases);
-    say(b" cases, ");
-    io::print_decimal(STDOUT_FILENO, t.agree);
-    say(b" with pm-remez's very bits\n");
+    say(rt, name)?;
+    println!(rt;
+        ": {} cases, {} with pm-remez's very bits",
+        t.cases, t.agree
+    )?;
     if t.cases == 0 {
-        false
+        Ok(false)
     } else {
-        t.cases == t.agree
+        Ok(t.cases == t.agree)
     }
 }
 
@@ -157,32 +174,31 @@ fn both(a: bool, b: bool) -> bool {
     if a { b } else { false }
 }
 
-fn is_all_good(s: &[u8]) -> bool {
-    let a = reported(s, b"weights");
-    let b = both(a, reported(s, b"delta"));
-    let c = both(b, reported(s, b"abscissas"));
-    let d = both(c, reported(s, b"response"));
-    let e = both(d, reported(s, b"nodes"));
-    let f = both(e, reported(s, b"coefficients"));
-    let g = both(f, reported(s, b"lookup"));
-    let h = both(g, reported(s, b"realizable"));
-    let i = both(h, reported(s, b"edges"));
-    let r = both(i, reported(s, b"radians"));
-    let j = both(r, reported(s, b"adjusted_desired"));
-    let k = both(j, reported(s, b"adjusted_weight"));
-    both(k, reported(s, b"taps"))
+fn is_all_good(rt: &impl Print, s: &[u8]) -> io::Result<bool> {
+    let a = reported(rt, s, b"weights")?;
+    let b = both(a, reported(rt, s, b"delta")?);
+    let c = both(b, reported(rt, s, b"abscissas")?);
+    let d = both(c, reported(rt, s, b"response")?);
+    let e = both(d, reported(rt, s, b"nodes")?);
+    let f = both(e, reported(rt, s, b"coefficients")?);
+    let g = both(f, reported(rt, s, b"lookup")?);
+    let h = both(g, reported(rt, s, b"realizable")?);
+    let i = both(h, reported(rt, s, b"edges")?);
+    let r = both(i, reported(rt, s, b"radians")?);
+    let j = both(r, reported(rt, s, b"adjusted_desired")?);
+    let k = both(j, reported(rt, s, b"adjusted_weight")?);
+    Ok(both(k, reported(rt, s, b"taps")?))
 }
 
-fn main() {
+fn main(rt: HostRuntime) -> io::Result<()> {
     let mut room = [0u8; ROOM];
-    let n = io::read_full(STDIN_FILENO, &mut room);
+    let n = read_full(&mut rt.stdin(), &mut room)?;
     if n == ROOM {
-        say(b"WRONG: the list fills the program's room\n");
-        return;
+        return say(&rt, b"WRONG: the list fills the program's room\n");
     }
-    if is_all_good(&room[..n]) {
-        say(b"ok\n");
+    if is_all_good(&rt, &room[..n])? {
+        say(&rt, b"ok\n")
     } else {
-        say(b"WRONG\n");
+        say(&rt, b"WRONG\n")
     }
 }

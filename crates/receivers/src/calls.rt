@@ -2,12 +2,19 @@
 use crate::saying::{number_of, say, say_done, say_slot, say_whole};
 use cases::{past, plan_at, symmetry_of, whole_at, written_at};
 use fields::Request;
+use std::io;
 
 // The bytes that an image may take.
 const BYTES: usize = 948;
 
 // open SLOT TAPS SYMMETRY DEGREE EXCHANGES THRESHOLD BANDS, and a line for each band
-pub(crate) fn open(s: &[u8], at: usize, bank: &mut [u64], scratch: &mut [u64]) {
+pub(crate) fn open(
+    rt: &impl Print,
+    s: &[u8],
+    at: usize,
+    bank: &mut [u64],
+    scratch: &mut [u64],
+) -> io::Result<()> {
     let slot = whole_at(s, at);
     let taps = whole_at(s, slot.at);
     let symmetry = whole_at(s, taps.at);
@@ -17,8 +24,7 @@ pub(crate) fn open(s: &[u8], at: usize, bank: &mut [u64], scratch: &mut [u64]) {
     let bands = whole_at(s, past(s, exchanges.at));
     let planned = plan_at(s, bands.at, bands.count);
     if !planned.good {
-        say(b"WRONG: a request that cannot be read\n");
-        return;
+        return say(rt, b"WRONG: a request that cannot be read\n");
     }
     let request = Request {
         taps: taps.count,
@@ -29,18 +35,30 @@ pub(crate) fn open(s: &[u8], at: usize, bank: &mut [u64], scratch: &mut [u64]) {
         plan: planned.plan,
     };
     let r = bank::open(bank, scratch, slot.count, request);
-    say_done(slot.count, b"opened", number_of(r.verdict));
+    say_done(rt, slot.count, b"opened", number_of(r.verdict))
 }
 
 // step SLOT
-pub(crate) fn step(s: &[u8], at: usize, bank: &mut [u64], scratch: &mut [u64]) {
+pub(crate) fn step(
+    rt: &impl Print,
+    s: &[u8],
+    at: usize,
+    bank: &mut [u64],
+    scratch: &mut [u64],
+) -> io::Result<()> {
     let slot = whole_at(s, at);
     let r = bank::step(bank, scratch, slot.count);
-    say_done(slot.count, b"one exchange made", number_of(r.verdict));
+    say_done(rt, slot.count, b"one exchange made", number_of(r.verdict))
 }
 
 // finish SLOT: exchange after exchange, until one is refused. A finished job refuses with 3.
-pub(crate) fn finish(s: &[u8], at: usize, bank: &mut [u64], scratch: &mut [u64]) {
+pub(crate) fn finish(
+    rt: &impl Print,
+    s: &[u8],
+    at: usize,
+    bank: &mut [u64],
+    scratch: &mut [u64],
+) -> io::Result<()> {
     let slot = whole_at(s, at);
     let mut made: usize = 0;
     let mut turns: usize = 101;
@@ -48,36 +66,42 @@ pub(crate) fn finish(s: &[u8], at: usize, bank: &mut [u64], scratch: &mut [u64])
         let r = bank::step(bank, scratch, slot.count);
         let n = number_of(r.verdict);
         if n == 3 {
-            say_slot(slot.count);
-            say_whole(made);
-            say(b" exchanges more, and no further one\n");
-            return;
+            say_slot(rt, slot.count)?;
+            say_whole(rt, made)?;
+            return say(rt, b" exchanges more, and no further one\n");
         }
         if n != 0 {
-            say_done(slot.count, b"", n);
-            return;
+            return say_done(rt, slot.count, b"", n);
         }
         made = std::num::wrapping_add_usize(made, 1);
         turns -= 1;
     }
+    Ok(())
 }
 
 // clear SLOT
-pub(crate) fn clear(s: &[u8], at: usize, bank: &mut [u64], scratch: &mut [u64]) {
+pub(crate) fn clear(
+    rt: &impl Print,
+    s: &[u8],
+    at: usize,
+    bank: &mut [u64],
+    scratch: &mut [u64],
+) -> io::Result<()> {
     let slot = whole_at(s, at);
     let r = bank::clear(bank, scratch, slot.count);
-    say_done(slot.count, b"cleared", number_of(r.verdict));
+    say_done(rt, slot.count, b"cleared", number_of(r.verdict))
 }
 
 // save SLOT IMAGE
 pub(crate) fn save(
+    rt: &impl Print,
     s: &[u8],
     at: usize,
     bank: &mut [u64],
     scratch: &mut [u64],
     images: &mut [u8],
     sizes: &mut [usize],
-) {
+) -> io::Result<()> {
     let slot = whole_at(s, at);
     let image = whole_at(s, slot.at);
     let k = image.count;
@@ -90,22 +114,22 @@ pub(crate) fn save(
                 &mut images[k * BYTES..k * BYTES + BYTES],
             );
             sizes[k] = r.count;
-            say_done(slot.count, b"saved", number_of(r.verdict));
-            return;
+            return say_done(rt, slot.count, b"saved", number_of(r.verdict));
         }
     }
-    say(b"WRONG: no such image\n");
+    say(rt, b"WRONG: no such image\n")
 }
 
 // restore SLOT IMAGE
 pub(crate) fn restore(
+    rt: &impl Print,
     s: &[u8],
     at: usize,
     bank: &mut [u64],
     scratch: &mut [u64],
     images: &[u8],
     sizes: &[usize],
-) {
+) -> io::Result<()> {
     let slot = whole_at(s, at);
     let image = whole_at(s, slot.at);
     let k = image.count;
@@ -114,10 +138,9 @@ pub(crate) fn restore(
             let n = sizes[k];
             if n <= BYTES {
                 let r = bank::restore(bank, scratch, slot.count, &images[k * BYTES..k * BYTES + n]);
-                say_done(slot.count, b"restored", number_of(r.verdict));
-                return;
+                return say_done(rt, slot.count, b"restored", number_of(r.verdict));
             }
         }
     }
-    say(b"WRONG: no such image\n");
+    say(rt, b"WRONG: no such image\n")
 }

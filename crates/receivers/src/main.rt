@@ -1,13 +1,16 @@
 // A bank of jobs run by the commands of standard input. Every line is a command or belongs to one (README.md has them all).
 #![tactic(auto)]
 
+ghost use Rattle.std.specs.Prelude.{◌≤◌, length, IfOk};
+
 mod calls;
 mod comparing;
 mod patching;
 mod saying;
 
-use libc::STDIN_FILENO;
 use saying::say;
+use std::io;
+use std::io::Read;
 use text::Token;
 
 // The commands have to be shorter.
@@ -25,36 +28,45 @@ fn line_end(s: &[u8], at: usize) -> usize {
     at
 }
 
-fn say_line(s: &[u8], from: usize, to: usize) {
+fn say_line(rt: &impl Print, s: &[u8], from: usize, to: usize) -> io::Result<()> {
     if from <= to {
         if to <= s.len() {
-            say(&s[from..to]);
+            say(rt, &s[from..to])?;
         }
     }
-    say(b"\n");
+    say(rt, b"\n")
 }
 
 // What a command does with the bank alone.
-fn on_bank(s: &[u8], from: usize, to: usize, bank: &mut [u64], scratch: &mut [u64]) {
+fn on_bank(
+    rt: &impl Print,
+    s: &[u8],
+    from: usize,
+    to: usize,
+    bank: &mut [u64],
+    scratch: &mut [u64],
+) -> io::Result<()> {
     if text::is(s, from, to, b"open") {
-        calls::open(s, to, bank, scratch);
+        calls::open(rt, s, to, bank, scratch)?;
     }
     if text::is(s, from, to, b"step") {
-        calls::step(s, to, bank, scratch);
+        calls::step(rt, s, to, bank, scratch)?;
     }
     if text::is(s, from, to, b"finish") {
-        calls::finish(s, to, bank, scratch);
+        calls::finish(rt, s, to, bank, scratch)?;
     }
     if text::is(s, from, to, b"clear") {
-        calls::clear(s, to, bank, scratch);
+        calls::clear(rt, s, to, bank, scratch)?;
     }
     if text::is(s, from, to, b"compare") {
-        comparing::compare(s, to, bank, scratch);
+        comparing::compare(rt, s, to, bank, scratch)?;
     }
+    Ok(())
 }
 
 // What a command does with images.
 fn on_images(
+    rt: &impl Print,
     s: &[u8],
     from: usize,
     to: usize,
@@ -62,51 +74,81 @@ fn on_images(
     scratch: &mut [u64],
     images: &mut [u8],
     sizes: &mut [usize],
-) {
+) -> io::Result<()> {
     if text::is(s, from, to, b"save") {
-        calls::save(s, to, bank, scratch, images, sizes);
+        calls::save(rt, s, to, bank, scratch, images, sizes)?;
     }
     if text::is(s, from, to, b"restore") {
-        calls::restore(s, to, bank, scratch, images, sizes);
+        calls::restore(rt, s, to, bank, scratch, images, sizes)?;
     }
     if text::is(s, from, to, b"plan") {
-        patching::plan(s, to, images);
+        patching::plan(rt, s, to, images)?;
     }
     if text::is(s, from, to, b"unmade") {
-        patching::unmade(s, to, images, sizes);
+        patching::unmade(rt, s, to, images, sizes)?;
     }
+    Ok(())
 }
 
 // Word after word: every turn passes one.
-fn run(s: &[u8], bank: &mut [u64], scratch: &mut [u64], images: &mut [u8], sizes: &mut [usize]) {
+fn run(
+    rt: &impl Print,
+    s: &[u8],
+    bank: &mut [u64],
+    scratch: &mut [u64],
+    images: &mut [u8],
+    sizes: &mut [usize],
+) -> io::Result<()> {
     let mut at: usize = 0;
     let mut turns = s.len();
     while turns > 0 {
         let Token::Word(from, to) = text::next(s, at) else {
-            return;
+            return Ok(());
         };
         if text::is(s, from, to, b"say") {
             at = line_end(s, to);
-            say_line(s, to, at);
+            say_line(rt, s, to, at)?;
         } else {
-            on_bank(s, from, to, bank, scratch);
-            on_images(s, from, to, bank, scratch, images, sizes);
+            on_bank(rt, s, from, to, bank, scratch)?;
+            on_images(rt, s, from, to, bank, scratch, images, sizes)?;
             at = to;
         }
         turns -= 1;
     }
+    Ok(())
 }
 
-fn main() {
+// Until the input ends or the room is full; how many bytes were read.
+fn read_full(input: &mut impl Read, room: &mut [u8]) -> io::Result<usize>
+    ensures { IfOk result (λ n. n ≤ length room.new) }
+{
+    let mut n = 0;
+    while n < room.len() {
+        let k = input.read(&mut room[n..])?;
+        if k == 0 {
+            break;
+        }
+        n += k;
+    }
+    Ok(n)
+}
+
+fn main(rt: HostRuntime) -> io::Result<()> {
     let mut room = [0u8; ROOM];
-    let n = io::read_full(STDIN_FILENO, &mut room);
+    let n = read_full(&mut rt.stdin(), &mut room)?;
     if n == ROOM {
-        say(b"WRONG: the commands fill the program's room\n");
-        return;
+        return say(&rt, b"WRONG: the commands fill the program's room\n");
     }
     let mut bank = [0u64; 4096];
     let mut scratch = [0u64; 8192];
     let mut images = [0u8; 7584];
     let mut sizes = [0usize; 8];
-    run(&room[..n], &mut bank, &mut scratch, &mut images, &mut sizes);
+    run(
+        &rt,
+        &room[..n],
+        &mut bank,
+        &mut scratch,
+        &mut images,
+        &mut sizes,
+    )
 }

@@ -2,6 +2,7 @@
 use crate::saying::say;
 use bands::{Band, Plan, Value};
 use cases::{plan_at, whole_at};
+use std::io;
 
 const BYTES: usize = 948;
 
@@ -111,7 +112,7 @@ fn put_plan(image: &mut [u8], plan: Plan, count: usize) -> bool {
 }
 
 // plan IMAGE BANDS, and a line for each band: another plan of as many bands; all else stays
-pub(crate) fn plan(s: &[u8], at: usize, images: &mut [u8]) {
+pub(crate) fn plan(rt: &impl Print, s: &[u8], at: usize, images: &mut [u8]) -> io::Result<()> {
     let image = whole_at(s, at);
     let bands = whole_at(s, image.at);
     let planned = plan_at(s, bands.at, bands.count);
@@ -120,11 +121,14 @@ pub(crate) fn plan(s: &[u8], at: usize, images: &mut [u8]) {
     if planned.good {
         if k < images.len() / BYTES {
             if put_plan(&mut images[k * BYTES..k * BYTES + BYTES], plan, bands.count) {
-                return;
+                return Ok(());
             }
         }
     }
-    say(b"WRONG: no such plan, no such image, or one of another number of bands\n");
+    say(
+        rt,
+        b"WRONG: no such plan, no such image, or one of another number of bands\n",
+    )
 }
 
 // No exchange made, flatness 0 and no points: the bytes that are left.
@@ -136,15 +140,21 @@ fn forget(image: &mut [u8]) -> usize {
 }
 
 // unmade IMAGE: no exchange made, so that restoring opens the job of the plan in the image
-pub(crate) fn unmade(s: &[u8], at: usize, images: &mut [u8], sizes: &mut [usize]) {
+pub(crate) fn unmade(
+    rt: &impl Print,
+    s: &[u8],
+    at: usize,
+    images: &mut [u8],
+    sizes: &mut [usize],
+) -> io::Result<()> {
     let image = whole_at(s, at);
     let k = image.count;
     if k < sizes.len() {
         if k < images.len() / BYTES {
             let n = forget(&mut images[k * BYTES..k * BYTES + BYTES]);
             sizes[k] = n;
-            return;
+            return Ok(());
         }
     }
-    say(b"WRONG: no such image\n");
+    say(rt, b"WRONG: no such image\n")
 }

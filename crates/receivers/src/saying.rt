@@ -1,23 +1,23 @@
 // What a person is told.
-use libc::STDOUT_FILENO;
 use numbers::Verdict;
+use std::io;
 
-pub(crate) fn say(words: &[u8]) {
-    io::write_all(STDOUT_FILENO, words);
+pub(crate) fn say(rt: &impl Print, words: &[u8]) -> io::Result<()> {
+    rt.write_all(words)
 }
 
-pub(crate) fn say_whole(n: usize) {
-    io::print_decimal(STDOUT_FILENO, n as u64);
+pub(crate) fn say_whole(rt: &impl Print, n: usize) -> io::Result<()> {
+    print!(rt; "{n}")
 }
 
-pub(crate) fn say_bits(w: u64) {
-    io::print_hex(STDOUT_FILENO, w, 16);
+pub(crate) fn say_bits(rt: &impl Print, w: u64) -> io::Result<()> {
+    print!(rt; "{w:016x}")
 }
 
-pub(crate) fn say_slot(slot: usize) {
-    say(b"slot ");
-    say_whole(slot);
-    say(b": ");
+pub(crate) fn say_slot(rt: &impl Print, slot: usize) -> io::Result<()> {
+    say(rt, b"slot ")?;
+    say_whole(rt, slot)?;
+    say(rt, b": ")
 }
 
 // 0, or the number of the refusal.
@@ -29,13 +29,12 @@ pub(crate) fn number_of(verdict: Verdict) -> u64 {
 }
 
 // That a call on a slot did what it is named for, or why not.
-pub(crate) fn say_done(slot: usize, done: &[u8], number: u64) {
-    say_slot(slot);
+pub(crate) fn say_done(rt: &impl Print, slot: usize, done: &[u8], number: u64) -> io::Result<()> {
+    say_slot(rt, slot)?;
     if number == 0 {
-        say(done);
+        say(rt, done)?;
     } else {
-        say(b"refused with ");
-        io::print_decimal(STDOUT_FILENO, number);
+        print!(rt; "refused with {number}")?;
     }
-    say(b"\n");
+    say(rt, b"\n")
 }

@@ -2,20 +2,38 @@
 // with a second writing of document 01: pm-remez has none).
 #![tactic(auto)]
 
+ghost use Rattle.std.specs.Prelude.{◌≤◌, length, IfOk};
+
 mod candidates;
 mod intervals;
 mod judging;
 mod matrices;
 
 use judging::Judged;
-use libc::{STDIN_FILENO, STDOUT_FILENO};
+use std::io;
+use std::io::Read;
 use text::Token;
 
 // The list has to be shorter.
 const ROOM: usize = 524288;
 
-fn say(words: &[u8]) {
-    io::write_all(STDOUT_FILENO, words);
+// Until the input ends or the room is full; how many bytes were read.
+fn read_full(input: &mut impl Read, room: &mut [u8]) -> io::Result<usize>
+    ensures { IfOk result (λ n. n ≤ length room.new) }
+{
+    let mut n = 0;
+    while n < room.len() {
+        let k = input.read(&mut room[n..])?;
+        if k == 0 {
+            break;
+        }
+        n += k;
+    }
+    Ok(n)
+}
+
+fn say(rt: &impl Print, words: &[u8]) -> io::Result<()> {
+    rt.write_all(words)
 }
 
 // A leaf by its name.
@@ -100,47 +118,41 @@ fn counted(s: &[u8], name: &[u8]) -> Tally {
 }
 
 // The leaf's line; whether no case is wrong.
-fn reported(s: &[u8], name: &[u8]) -> bool {
+fn reported(rt: &impl Print, s: &[u8], name: &[u8]) -> io::Result<bool> {
     let t = counted(s, name);
-    say(name);
-    say(b": ");
-    io::print_decimal(STDOUT_FILENO, t.cases);
-    say(b" cases, ");
-    io::print_decimal(STDOUT_FILENO, t.same);
-    say(b" with the very bits, ");
-    io::print_decimal(STDOUT_FILENO, t.refused);
-    say(b" refused by both, ");
-    io::print_decimal(STDOUT_FILENO, t.known);
-    say(b" known differences\n");
+    say(rt, name)?;
+    println!(rt;
+        ": {} cases, {} with the very bits, {} refused by both, {} known differences",
+        t.cases, t.same, t.refused, t.known
+    )?;
     if t.cases == 0 {
-        return false;
+        return Ok(false);
     }
     let a = std::num::wrapping_add_u64(t.same, t.refused);
-    t.cases == std::num::wrapping_add_u64(a, t.known)
+    Ok(t.cases == std::num::wrapping_add_u64(a, t.known))
 }
 
 fn both(a: bool, b: bool) -> bool {
     if a { b } else { false }
 }
 
-fn is_all_good(s: &[u8]) -> bool {
-    let a = reported(s, b"first");
-    let b = both(a, reported(s, b"subdivide"));
-    let c = both(b, reported(s, b"colleague"));
-    let d = both(c, reported(s, b"roots"));
-    both(d, reported(s, b"prune"))
+fn is_all_good(rt: &impl Print, s: &[u8]) -> io::Result<bool> {
+    let a = reported(rt, s, b"first")?;
+    let b = both(a, reported(rt, s, b"subdivide")?);
+    let c = both(b, reported(rt, s, b"colleague")?);
+    let d = both(c, reported(rt, s, b"roots")?);
+    Ok(both(d, reported(rt, s, b"prune")?))
 }
 
-fn main() {
+fn main(rt: HostRuntime) -> io::Result<()> {
     let mut room = [0u8; ROOM];
-    let n = io::read_full(STDIN_FILENO, &mut room);
+    let n = read_full(&mut rt.stdin(), &mut room)?;
     if n == ROOM {
-        say(b"WRONG: the list fills the program's room\n");
-        return;
+        return say(&rt, b"WRONG: the list fills the program's room\n");
     }
-    if is_all_good(&room[..n]) {
-        say(b"ok\n");
+    if is_all_good(&rt, &room[..n])? {
+        say(&rt, b"ok\n")
     } else {
-        say(b"WRONG\n");
+        say(&rt, b"WRONG\n")
     }
 }

@@ -1,0 +1,5 @@
+-- `leaf_values::counted` is safe and ends. Assumes nothing.
+use Rattle.leaf_values.proofs.counted.Given as goal
+
+abbrev pub decreases-loop-turns : goal.decreases-loop-turns
+decreases-loop-turns l = l.turns
