@@ -9,7 +9,7 @@ use Rattle.fields.specs.declared.request.Request.{Request}
 use Rattle.fields.specs.declared.held.Fields.{Fields}
 use Rattle.fields.specs.Accept.{accept_of, opening}
 use Rattle.exchange.specs.Job.{Standing, running, done, failed, Held, held, standing_by, opened_of}
-use Rattle.exchange.specs.Step.{Next, step_of}
+use Rattle.exchange.specs.Step.{step_of}
 use Rattle.exchange.specs.Design.{Design, design_for}
 use Rattle.image.specs.Image.{image_of, image_for}
 use Rattle.bank.specs.declared.Answer.{Answer}

@@ -1,5 +1,5 @@
 -- A run of calls on a bank, and the same calls on one slot alone.
-use Rattle.std.specs.Prelude.{ℕ, ◌≡◌, cond, List, [], ◌∷◌, eqb, length, Float}
+use Rattle.std.specs.Prelude.{ℕ, cond, List, [], ◌∷◌, eqb, length, Float}
 use Rattle.bank.specs.Sizes.{Sizes}
 use Rattle.bank.specs.Calls.{Call, room, Told, Result}
 use Rattle.bank.specs.Bank.{gate_of, passed, Done, bank_call}

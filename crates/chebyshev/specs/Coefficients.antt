@@ -1,8 +1,7 @@
 -- The coefficients a_k of the sum of a_k T_k that takes the given values at the Chebyshev nodes of the second kind: first and last
 -- value halved, Clenshaw's sum at each node's cosine times 2 / n, first and last result halved.
-use Rattle.std.specs.Prelude.{ℕ, ◌+◌, ◌-◌, Bool, ◌&&◌, ◌||◌, cond, List, leb, eqb, length, get_or, Float}
-use Rattle.std.specs.Float.{nan, binary64}
-use Rattle.std.specs.Float.Ieee.{of_bits}
+use Rattle.std.specs.Prelude.{ℕ, ◌-◌, ◌&&◌, ◌||◌, cond, List, leb, eqb, length, get_or, Float}
+use Rattle.std.specs.Float.{nan}
 use Rattle.numbers.specs.Floats.{zero64, all_finite}
 use Rattle.numbers.specs.Operations.{◌⊕◌, ◌⊖◌, ◌⊗◌, ◌⊘◌}
 use Rattle.numbers.specs.Loops.{run, tab}

@@ -9,10 +9,9 @@ use borrow.Author.Tests.{not-true}
 use lib.Dec.{T}
 use lib.ListN.{length, get_or, get_or-eq_default}
 use lib.Ieee.{Float, binary64, lt, le, eq, fits, is_nan, of_bits}
-use lib.Ieee.Fits.{mul-fits}
 use lib.Ieee.Scale.{finite}
 use Rattle.numbers.specs.Floats.{zero64, one64, magnitude_of, lesser}
-use Rattle.numbers.specs.Operations.{◌⊖◌, ◌⊗◌, ◌⊘◌}
+use Rattle.numbers.specs.Operations.{◌⊖◌, ◌⊘◌}
 use Rattle.numbers.specs.Outcome.{refused, gave, unless, needed_of}
 use Rattle.numbers.proofs.Order.{not-lt, leq_trans, le_antisym, lt-le}
 use Rattle.numbers.proofs.Chains.{le_same}

@@ -1,20 +1,20 @@
 -- A step that is not refused leaves a job, with one exchange more: flatness and points are in their ranges, since `accept` takes them. And
 -- an exchange of a running job is refused with 9 to 13 alone. Assumes nothing.
-use Prim.Native.Nat.{ℕ, zero, suc, ◌+◌, ◌-◌, ◌≤◌, ◌<◌}
+use Prim.Native.Nat.{ℕ, ◌+◌, ◌-◌, ◌≤◌}
 use mathlib.Core.Path.{◌≡◌, refl, sym, ◌∙◌}
-use mathlib.Core.Bool.{Bool, true, false, not, ◌&&◌, ◌||◌, cond}
-use mathlib.Core.List.{List, [], ◌∷◌, ◌++◌}
+use mathlib.Core.Bool.{Bool, true, false, ◌&&◌, cond}
+use mathlib.Core.List.{List, [], ◌∷◌}
 use native.Mathlib.Omega.{arith}
 use borrow.Author.Tests.{le-leb, leb-true, lt-ltb, eqb-false}
-use lib.Dec.{leb, eqb, ltb}
+use lib.Dec.{leb, eqb}
 use lib.ListN.{length, get_or, take, replicate, length-append, length-replicate}
 use lib.Seq.{take_at}
-use lib.Ieee.{Float, le}
-use Rattle.numbers.specs.Floats.{zero64, one64, sign, all_finite}
-use Rattle.numbers.specs.Outcome.{Outcome, refused, gave, bind, unless, gather}
+use lib.Ieee.{Float}
+use Rattle.numbers.specs.Floats.{zero64, one64, all_finite}
+use Rattle.numbers.specs.Outcome.{Outcome, gave, bind, unless, gather}
 use Rattle.numbers.proofs.Given.{gave_same, unless_given, bind_given, gather-length}
 use Rattle.numbers.proofs.LoopLaws.{length-tab}
-use Rattle.numbers.proofs.Order.{and_1, and_2, or_false}
+use Rattle.numbers.proofs.Order.{and_1, or_false}
 use Rattle.numbers.proofs.Refusing.{Refuses, Only, refuses_weaker, refuses_gave, refuses_unless, refuses_bind, refuses_gather}
 use Rattle.numbers.proofs.Unit.{Within}
 use Rattle.angles.specs.Turns.{cosine_of}
@@ -38,7 +38,6 @@ use Rattle.fields.specs.declared.held.Fields.{Fields}
 use Rattle.fields.specs.Request.{points_of, request_for}
 use Rattle.fields.specs.Interpolant.{Interpolation, interpolated, radians_of, padded}
 use Rattle.fields.specs.Accept.{flatness_holds, counts_hold, places_of, accept_of, finished}
-use Rattle.fields.specs.Facts.{AcceptedFacts}
 use Rattle.fields.proofs.Facts.{request_few, accepted}
 use Rattle.fields.proofs.Refused.{accepted_refuses}
 use Rattle.exchange.specs.Bands.{band_in_x, bands_in_x}

@@ -1,7 +1,6 @@
 -- The finished design: the response at the angles j times (PI / (functions - 1)), its coefficients, the taps; the extremal frequencies in
 -- cycles per sample; the weighted error |delta|, the flatness and the number of exchanges made. 9 where a needed number is not finite.
-use Rattle.std.specs.Prelude.{ℕ, ◌≤◌, ◌≡◌, ◌&&◌, List, leb, length, get_or, Float}
-use Rattle.std.specs.Float.{nan}
+use Rattle.std.specs.Prelude.{ℕ, ◌≤◌, ◌≡◌, ◌&&◌, List, leb, length, Float}
 use Rattle.numbers.specs.Floats.{zero64, magnitude_of}
 use Rattle.numbers.specs.Operations.{◌⊘◌}
 use Rattle.numbers.specs.Outcome.{Outcome, refused, gave, bind, unless, gather, needed_of}

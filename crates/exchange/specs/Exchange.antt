@@ -1,5 +1,5 @@
 -- One exchange is one turn of the Rust's loop (document 01): from a job's fields to the next ones, or a refusal of 9 to 13.
-use Rattle.std.specs.Prelude.{ℕ, ◌+◌, ◌-◌, List, length, get_or, Float}
+use Rattle.std.specs.Prelude.{◌+◌, ◌-◌, List, length, get_or, Float}
 use Rattle.numbers.specs.Loops.{tab}
 use Rattle.numbers.specs.Outcome.{Outcome, gave, bind}
 use Rattle.fir_types.specs.declared.edges.Edges.{Edges}

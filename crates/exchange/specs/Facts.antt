@@ -1,5 +1,5 @@
 -- What is said of a step that is not refused: it leaves a job, with one exchange more.
-use Rattle.std.specs.Prelude.{ℕ, ◌+◌, ◌≡◌, List, length, Float}
+use Rattle.std.specs.Prelude.{◌+◌, ◌≡◌, List, length}
 use Rattle.numbers.specs.Outcome.{gave}
 use Rattle.pruning.specs.declared.candidates.Candidate.{Candidate}
 use Rattle.fields.specs.declared.held.Fields.{Fields}

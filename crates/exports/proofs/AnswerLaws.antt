@@ -1,14 +1,13 @@
 -- What an answer tells C is the number of its outcome. Assumes nothing.
-use Prim.Native.Nat.{ℕ, ◌≤◌, ◌<◌}
-use mathlib.Core.Path.{◌≡◌, refl, sym, ◌∙◌}
+use Prim.Native.Nat.{ℕ, ◌≤◌}
+use mathlib.Core.Path.{◌≡◌, refl, ◌∙◌}
 use mathlib.Core.List.{List, [], ◌∷◌}
 use lib.ListN.{length, set}
 use lib.Ieee.{Float}
-use borrow.Author.Tests.{le-leb, lt-leb}
+use borrow.Author.Tests.{le-leb}
 use native.Mathlib.Omega.{arith}
-use Rattle.numbers.specs.Outcome.{Outcome, refused, gave, unless, bind}
-use Rattle.numbers.specs.Refusals.{refusal_number, verdict_of, Filled}
-use Rattle.numbers.specs.declared.Refusal.{Refusal}
+use Rattle.numbers.specs.Outcome.{Outcome, refused, gave}
+use Rattle.numbers.specs.Refusals.{verdict_of, Filled}
 use Rattle.numbers.specs.declared.Verdict.{Verdict}
 use Rattle.numbers.specs.declared.Verdict.TheVariants as verdict
 use Rattle.exports.specs.Answers.{number_of, said, single, Numbered}

@@ -4,7 +4,6 @@ use Rattle.std.specs.Float.{nan}
 use Rattle.numbers.specs.Floats.{zero64}
 use Rattle.numbers.specs.Loops.{until, tab}
 use Rattle.numbers.specs.Outcome.{Outcome, gave, bind, unless}
-use Rattle.colleague.specs.declared.Row.{Row}
 use Rattle.colleague.specs.declared.Colleague.{Colleague}
 use Rattle.colleague.specs.Answer.{row_record, colleague_for}
 use Rattle.roots.specs.Answer.{roots_for}

@@ -2,7 +2,7 @@
 -- place depends on that place alone. Assumes nothing.
 use Prim.Native.Nat.{ℕ, zero, suc, ◌+◌, ◌-◌, ◌/◌, ◌≤◌, ◌<◌}
 use mathlib.Core.Path.{◌≡◌, refl, sym, ap, ◌∙◌}
-use mathlib.Core.Bool.{Bool, true, false, ◌&&◌, cond}
+use mathlib.Core.Bool.{true, ◌&&◌}
 use mathlib.Core.List.{List, [], ◌∷◌, ◌++◌, map, append_assoc, append-nil}
 use native.Mathlib.Omega.{arith}
 use native.Mathlib.Nat.{zero-add, not-suc-le-zero, le_of_suc-le-suc}
@@ -14,7 +14,7 @@ use lib.Ieee.{Float, nan}
 use lib.Ieee.Scale.{finite}
 use Rattle.numbers.specs.Floats.{all_finite}
 use Rattle.numbers.specs.Loops.{tab}
-use Rattle.numbers.specs.Outcome.{Outcome, gave, bind, unless, sweep, gather}
+use Rattle.numbers.specs.Outcome.{Outcome, gave, bind, sweep, gather}
 use Rattle.numbers.proofs.Order.{and_1, and_2}
 use Rattle.numbers.proofs.LoopLaws.{length-tab, tab-map}
 use Rattle.numbers.proofs.Lanes.{tab-same, tab-get, tab-own}

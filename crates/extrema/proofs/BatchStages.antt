@@ -5,7 +5,7 @@ use mathlib.Core.Path.{◌≡◌, refl, sym, ap, ◌∙◌}
 use mathlib.Core.Bool.{Bool, true, false, true≢false}
 use mathlib.Core.List.{List, [], ◌∷◌, ◌++◌, map}
 use native.Mathlib.Omega.{arith}
-use lib.ListN.{length, get_or, take, drop, length-map}
+use lib.ListN.{length, get_or, take, drop}
 use lib.Seq.{take-take, drop_at}
 use lib.Ieee.{Float}
 use Rattle.numbers.specs.Floats.{all_finite}
@@ -31,7 +31,7 @@ use Rattle.extrema.specs.Proxy.{ends_of, scaled, derivative, inside_of}
 use Rattle.extrema.specs.Batches.{of_derivative, of_nodes, places_in, mark, marked, ends_marked, inside_marked, Behind, place_of, Settled, Tried}
 use Rattle.extrema.proofs.StageLaws.{stage_is}
 use Rattle.extrema.proofs.ProxyLaws.{length-scaled, inside_is}
-use Rattle.extrema.proofs.BatchLaws.{map-append, swept, view-front, settled_here, settled_then}
+use Rattle.extrema.proofs.BatchLaws.{map-append, swept, view-front, settled_here}
 
 -- ---- behind the first n
 module _ {k : ℕ} {f : List Candidate → Outcome (List Candidate)} {n : ℕ} {w w' : List ℕ} where

@@ -7,9 +7,8 @@ use native.Mathlib.Omega.{arith}
 use lib.ListN.{length, get_or, set, drop, replicate, length-map}
 use lib.Seq.{get_or-take, take_all}
 use lib.Ieee.{Float}
-use Rattle.numbers.specs.Loops.{tab}
 use Rattle.numbers.specs.Floats.{all_finite}
-use Rattle.numbers.specs.Outcome.{Outcome, gave, bind, unless}
+use Rattle.numbers.specs.Outcome.{gave, bind, unless}
 use Rattle.numbers.specs.Refusals.{Filled, Answers}
 use Rattle.numbers.specs.declared.Refusal.{Refusal}
 use Rattle.numbers.specs.declared.Verdict.{Verdict}

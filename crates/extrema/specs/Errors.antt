@@ -1,5 +1,5 @@
 -- The weighted error at a place x0: W(f) * (D(f) - H(f)) with f the arccosine of x0 and H the response there (document 01, item 2).
-use Rattle.std.specs.Prelude.{ℕ, Bool, List, length, get_or, Float}
+use Rattle.std.specs.Prelude.{Bool, List, length, get_or, Float}
 use Rattle.std.specs.Float.{nan}
 use Rattle.numbers.specs.Operations.{◌⊖◌, ◌⊗◌}
 use Rattle.numbers.specs.Outcome.{Outcome, bind, gather, needed_of}

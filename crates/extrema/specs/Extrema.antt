@@ -1,6 +1,6 @@
 -- The extrema of an exchange, in computing order: the ends of all subintervals as subdivided; then each subinterval's proxy, matrix, roots
 -- and candidates; then these sorted by x and pruned to n, or 13.
-use Rattle.std.specs.Prelude.{ℕ, ◌+◌, ◌-◌, ◌≡◌, Bool, ◌&&◌, cond, List, [], ◌++◌, map, leb, ltb, length, get_or, take, drop, replicate, Float}
+use Rattle.std.specs.Prelude.{ℕ, ◌+◌, ◌-◌, ◌≡◌, ◌&&◌, cond, List, [], ◌++◌, map, leb, ltb, length, get_or, take, drop, replicate, Float}
 use Rattle.numbers.specs.Loops.{tab}
 use Rattle.numbers.specs.Outcome.{Outcome, gave, bind, unless, sweep}
 use Rattle.numbers.specs.Refusals.{Answers}

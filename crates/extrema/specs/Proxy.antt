@@ -1,6 +1,6 @@
 -- The extrema inside a subinterval (find_extrema_in_subinterval of the Rust): the errors at the Chebyshev nodes, the coefficients of the
 -- proxy through them, its derivative, the colleague matrix, its roots, and a candidate at each.
-use Rattle.std.specs.Prelude.{ℕ, ◌+◌, ◌-◌, List, [], ◌∷◌, length, get_or, Float}
+use Rattle.std.specs.Prelude.{◌+◌, ◌-◌, List, [], ◌∷◌, length, get_or, Float}
 use Rattle.std.specs.Float.{nan}
 use Rattle.numbers.specs.Floats.{one64}
 use Rattle.numbers.specs.Loops.{tab}

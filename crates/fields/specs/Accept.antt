@@ -1,5 +1,5 @@
 -- What a job's fields must be: the one definition that opening, restoring and the check of a slot's words go through.
-use Rattle.std.specs.Prelude.{ℕ, ◌≡◌, Bool, not, ◌&&◌, ◌||◌, cond, List, leb, ltb, eqb, take, replicate, Float}
+use Rattle.std.specs.Prelude.{ℕ, Bool, not, ◌&&◌, ◌||◌, cond, List, leb, ltb, eqb, take, replicate, Float}
 use Rattle.std.specs.Float.Ieee.{eq, le}
 use Rattle.numbers.specs.Floats.{zero64, one64, sign}
 use Rattle.numbers.specs.Outcome.{Outcome, gave, bind, unless}

@@ -1,11 +1,9 @@
 -- The desired value and the weight at an angle f in radians, adjusted to the type: the value over, and the weight times, what the
 -- type's factor is there. 9 where f or the result is not finite, or an angle lies outside its domain.
-use Rattle.std.specs.Prelude.{ℕ, Bool, true, false, ◌&&◌, List, leb, length, get_or, Float}
-use Rattle.std.specs.Float.{nan}
+use Rattle.std.specs.Prelude.{Bool, true, false, Float}
 use Rattle.std.specs.Float.Ieee.Scale.{finite}
-use Rattle.numbers.specs.Floats.{one64, all_finite}
 use Rattle.numbers.specs.Operations.{◌⊗◌, ◌⊘◌}
-use Rattle.numbers.specs.Outcome.{Outcome, gave, bind, unless, needed_of, gather}
+use Rattle.numbers.specs.Outcome.{Outcome, bind, unless, needed_of}
 use Rattle.angles.specs.Constants.{half}
 use Rattle.angles.specs.Turns.{cosine_of, sine_of}
 use Rattle.bands.specs.declared.Symmetry.{Symmetry}

@@ -1,5 +1,5 @@
 -- The response check (refusal 7): at a singular point that a band reaches, the desired value must be zero.
-use Rattle.std.specs.Prelude.{◌-◌, Bool, true, not, ◌&&◌, cond, Float}
+use Rattle.std.specs.Prelude.{◌-◌, Bool, not, ◌&&◌}
 use Rattle.std.specs.Float.Ieee.{eq, ne}
 use Rattle.numbers.specs.Floats.{zero64}
 use Rattle.numbers.specs.Outcome.{Outcome, gave, unless}

@@ -1,6 +1,5 @@
 -- `bands::does_band_hold` meets its contract. Assumes nothing.
 use mathlib.Core.Path.{sym, ◌∙◌}
-use borrow.Author.Tests.{not-true, not-false}
 use Rattle.bands.specs.Rules.{band_holds}
 use Rattle.bands.proofs.does_band_hold.Goals as goal
 

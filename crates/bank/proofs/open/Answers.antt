@@ -1,12 +1,10 @@
 -- `bank::open` meets its contract. Assumes nothing.
 use mathlib.Core.Path.{sym, ◌∙◌}
-use mathlib.Core.Bool.{true}
 use mathlib.Core.List.{[]}
 use native.Mathlib.Omega.{arith}
-use lib.ListN.{length}
 use Rattle.bank.specs.Sizes.{full}
 use Rattle.bank.specs.Calls.{Call}
-use Rattle.bank.proofs.Laws.{Inside, inside}
+use Rattle.bank.proofs.Laws.{inside}
 use Rattle.bank.proofs.Ending.{ends_refused, ends_done}
 use Rattle.bank.proofs.open.Goals as goal
 

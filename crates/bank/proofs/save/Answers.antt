@@ -3,11 +3,9 @@ use mathlib.Core.Path.{sym, ◌∙◌}
 use mathlib.Core.List.{[]}
 use borrow.Author.Tests.{leb-true}
 use native.Mathlib.Omega.{arith}
-use lib.Dec.{leb}
-use lib.ListN.{length}
 use Rattle.bank.specs.Sizes.{full}
 use Rattle.bank.specs.Calls.{Call}
-use Rattle.bank.proofs.Laws.{Inside, inside}
+use Rattle.bank.proofs.Laws.{inside}
 use Rattle.bank.proofs.Ending.{ends_refused, ends_looked}
 use borrow.Author.Rules.{rules}
 use Rattle.bank.proofs.save.Goals as goal

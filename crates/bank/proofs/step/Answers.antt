@@ -1,6 +1,5 @@
 -- `bank::step` meets its contract. Assumes nothing.
 use mathlib.Core.Path.{◌≡◌, sym, ap, ◌∙◌}
-use mathlib.Core.Bool.{true}
 use Prim.Native.Nat.{ℕ, ◌≤◌}
 use mathlib.Core.List.{List, [], ◌++◌}
 use native.Mathlib.Omega.{arith}
@@ -8,7 +7,7 @@ use lib.ListN.{length, length-append, take, drop, replicate}
 use lib.Seq.{length-take-le}
 use Rattle.bank.specs.Sizes.{full}
 use Rattle.bank.specs.Calls.{Call}
-use Rattle.bank.proofs.Laws.{Inside, inside}
+use Rattle.bank.proofs.Laws.{inside}
 use Rattle.bank.proofs.Ending.{ends_refused, ends_done, wiped_again}
 use Rattle.bank.proofs.step.Goals as goal
 

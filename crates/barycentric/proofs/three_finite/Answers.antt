@@ -1,6 +1,5 @@
 -- `barycentric::three_finite` meets its contract. Assumes nothing.
 use mathlib.Core.Path.{sym, ◌∙◌}
-use borrow.Author.Tests.{not-true, not-false}
 use Rattle.barycentric.proofs.three_finite.Goals as goal
 
 pub returns-then-not-all_finite : goal.returns-then-not-all_finite

@@ -1,6 +1,5 @@
 -- `cases::is_case` meets its contract. Assumes nothing.
 use mathlib.Core.Path.{sym, ◌∙◌}
-use borrow.Author.Tests.{not-true, not-false}
 use Rattle.cases.specs.Cases.{case_of}
 use Rattle.cases.proofs.is_case.Goals as goal
 

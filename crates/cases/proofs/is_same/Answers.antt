@@ -1,6 +1,5 @@
 -- `cases::is_same` meets its contract. Assumes nothing.
 use mathlib.Core.Path.{sym, ◌∙◌}
-use borrow.Author.Tests.{not-true, not-false}
 use Rattle.cases.proofs.is_same.Goals as goal
 
 pub returns-then-not-is_finite : goal.returns-then-not-is_finite

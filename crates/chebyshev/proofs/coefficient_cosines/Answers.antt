@@ -8,7 +8,6 @@ use Rattle.numbers.specs.Operations.{◌⊗◌, ◌⊘◌}
 use Rattle.numbers.proofs.OutcomeLaws.{gather_start, gather_next, gather_stop, gather_end, value_is, value_refused}
 use Rattle.angles.specs.Constants.{pi}
 use Rattle.angles.specs.Turns.{cosine_of}
-use Rattle.chebyshev.specs.Angles.{whole}
 use Rattle.chebyshev.proofs.coefficient_cosines.Goals as goal
 
 pub loop-j-init : goal.loop-j-init

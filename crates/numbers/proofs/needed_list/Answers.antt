@@ -1,6 +1,6 @@
 -- `numbers::needed_list` meets its contract. Assumes nothing.
 use mathlib.Core.Path.{refl, sym, ◌∙◌}
-use borrow.Author.Tests.{not-true, not-false, lt-leb, le-leb}
+use borrow.Author.Tests.{lt-leb, le-leb}
 use Rattle.numbers.proofs.OutcomeLaws.{fills_none, fills}
 use Rattle.numbers.proofs.needed_list.Goals as goal
 

@@ -1,7 +1,6 @@
 -- `roots::are_entries_finite` meets its contract. Assumes nothing.
 use mathlib.Core.Path.{refl, ap, sym, ◌∙◌}
-use mathlib.Core.Bool.{true, false, not}
-use Rattle.numbers.specs.Floats.{all_finite}
+use mathlib.Core.Bool.{not}
 use Rattle.numbers.proofs.LoopLaws.{seek_start, seek_stop, seek_next, seek_end}
 use Rattle.roots.proofs.are_entries_finite.Goals as goal
 

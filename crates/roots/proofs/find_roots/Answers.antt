@@ -1,7 +1,7 @@
 -- `roots::find_roots` meets its contract. Assumes nothing.
 use mathlib.Core.Path.{refl, sym, ◌∙◌}
 use mathlib.Core.List.{[]}
-use borrow.Author.Tests.{not-true, not-false, lt-leb, le-leb, eq-eqb, ne_eqb}
+use borrow.Author.Tests.{lt-leb, le-leb, eq-eqb, ne_eqb}
 use Rattle.numbers.proofs.OutcomeLaws.{writes, writes_none}
 use Rattle.roots.proofs.AnswerLaws.{too_large, too_short, not_entries, no_roots, some_roots, wrote_same}
 use Rattle.roots.proofs.find_roots.Goals as goal

@@ -1,6 +1,6 @@
 -- `roots::roots_of` meets its contract. Assumes nothing.
 use mathlib.Core.Path.{sym, ◌∙◌}
-use borrow.Author.Tests.{not-true, not-false, lt-leb, le-leb}
+use borrow.Author.Tests.{lt-leb, le-leb}
 use lib.Seq.{length-take-le}
 use Rattle.numbers.proofs.OutcomeLaws.{writes, writes_none}
 use Rattle.roots.proofs.AnswerLaws.{count_given, count_none, count_fits, not_finite, not_found, too_many, all_found}

@@ -1,6 +1,6 @@
 -- `subdivision::are_edges_finite` meets its contract. Assumes nothing.
 use mathlib.Core.Path.{refl, sym, ap, ◌∙◌}
-use mathlib.Core.Bool.{true, false, not}
+use mathlib.Core.Bool.{not}
 use Rattle.numbers.proofs.LoopLaws.{seek_start, seek_stop, seek_next, seek_end}
 use Rattle.subdivision.proofs.are_edges_finite.Goals as goal
 

@@ -1,6 +1,5 @@
 -- `barycentric::delta::are_finite` meets its contract. Assumes nothing.
 use mathlib.Core.Path.{sym, ◌∙◌}
-use borrow.Author.Tests.{not-true, not-false}
 use Rattle.barycentric.proofs.delta.are_finite.Goals as goal
 
 pub returns-then-not-is_finite : goal.returns-then-not-is_finite

@@ -1,6 +1,5 @@
 -- `barycentric::delta::compute_delta` meets its contract. Assumes nothing.
 use mathlib.Core.Path.{sym, ◌∙◌}
-use borrow.Author.Tests.{not-true, not-false}
 use Rattle.barycentric.specs.Delta.{delta_for}
 use Rattle.barycentric.proofs.Shells.{three_alike_is}
 use Rattle.barycentric.proofs.delta.compute_delta.Goals as goal

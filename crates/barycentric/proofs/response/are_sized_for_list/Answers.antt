@@ -1,6 +1,5 @@
 -- `barycentric::response::are_sized_for_list` meets its contract. Assumes nothing.
 use mathlib.Core.Path.{sym, ◌∙◌}
-use borrow.Author.Tests.{not-true, not-false}
 use Rattle.barycentric.proofs.response.are_sized_for_list.Goals as goal
 
 pub returns-then-not-is_sized : goal.returns-then-not-is_sized

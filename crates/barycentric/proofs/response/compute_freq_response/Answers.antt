@@ -1,6 +1,5 @@
 -- `barycentric::response::compute_freq_response` meets its contract. Assumes nothing.
 use mathlib.Core.Path.{sym, ◌∙◌}
-use borrow.Author.Tests.{not-true, not-false}
 use Rattle.barycentric.specs.Response.{response_for}
 use Rattle.barycentric.proofs.Shells.{three_alike_is}
 use Rattle.barycentric.proofs.response.compute_freq_response.Goals as goal

@@ -1,7 +1,6 @@
 -- `barycentric::response::compute_freq_responses` meets its contract. Assumes nothing.
 use mathlib.Core.Path.{sym, ap, ◌∙◌}
 use native.Mathlib.Omega.{arith}
-use borrow.Author.Tests.{not-true, not-false}
 use lib.ListN.{length, length-append}
 use lib.Seq.{take_at, length-take-le}
 use Rattle.numbers.proofs.OutcomeLaws.{fills_none}

@@ -1,7 +1,6 @@
 -- `colleague::balance::balance_row` meets its contract. Assumes nothing.
 use mathlib.Core.Path.{refl, sym, ◌∙◌}
 use mathlib.Core.Bool.{true, false}
-use borrow.Author.Tests.{not-true, not-false}
 use Rattle.colleague.specs.declared.balance.Step.TheVariants.{Still, Moved, Stopped}
 use Rattle.colleague.proofs.BalanceLaws.{row_is, step_row, step_column, step_stop, step_by}
 use Rattle.colleague.proofs.balance.balance_row.Goals as goal

@@ -1,7 +1,6 @@
 -- `colleague::balance::raise` meets its contract. Assumes nothing.
 use mathlib.Core.Path.{refl, sym, ◌∙◌}
 use native.Mathlib.Omega.{arith}
-use borrow.Author.Tests.{not-true, not-false}
 use Rattle.colleague.proofs.BalanceLaws.{raise_steps, steps_more, steps_end, steps_none}
 use Rattle.colleague.proofs.balance.raise.Goals as goal
 

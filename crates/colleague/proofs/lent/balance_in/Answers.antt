@@ -1,6 +1,5 @@
 -- `colleague::lent::balance_in` meets its contract. Assumes nothing.
 use mathlib.Core.Path.{sym, ◌∙◌}
-use borrow.Author.Tests.{not-true, not-false}
 use Rattle.colleague.proofs.AnswerLaws.{not_built, over, not_balanced, balanced}
 use Rattle.colleague.proofs.LentLaws.{made, made_none}
 use Rattle.colleague.proofs.lent.balance_in.Goals as goal

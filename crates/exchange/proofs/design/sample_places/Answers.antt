@@ -8,7 +8,6 @@ use Rattle.numbers.specs.Outcome.{gave}
 use Rattle.numbers.proofs.OutcomeLaws.{gather_start, gather_next, gather_stop, gather_end, value_is, value_refused}
 use Rattle.angles.specs.Constants.{pi}
 use Rattle.angles.specs.Turns.{cosine_of}
-use Rattle.chebyshev.specs.Angles.{whole}
 use borrow.Author.Rules.{rules}
 use Rattle.exchange.proofs.design.sample_places.Goals as goal
 

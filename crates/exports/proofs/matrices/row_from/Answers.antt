@@ -3,7 +3,6 @@ use mathlib.Core.Path.{refl, ap}
 use lib.ListN.{set}
 use Rattle.numbers.proofs.LoopLaws.{next, end}
 use Rattle.roots.proofs.RowLaws.{fill_all}
-use Rattle.exports.specs.Matrices.{entry_from}
 use Rattle.exports.proofs.matrices.row_from.Goals as goal
 
 pub loop-j-init : goal.loop-j-init

@@ -1,6 +1,6 @@
 -- `exports::plans::are_kinds` meets its contract. Assumes nothing.
 use mathlib.Core.Path.{refl, ap, sym, ◌∙◌}
-use mathlib.Core.Bool.{true, false, not}
+use mathlib.Core.Bool.{not}
 use Rattle.numbers.proofs.LoopLaws.{seek_start, seek_stop, seek_next, seek_end}
 use Rattle.exports.proofs.plans.are_kinds.Goals as goal
 

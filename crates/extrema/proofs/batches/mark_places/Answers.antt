@@ -1,7 +1,6 @@
 -- `extrema::batches::mark_places` meets its contract. Assumes nothing.
 use mathlib.Core.Path.{sym, ◌∙◌}
 use native.Mathlib.Omega.{arith}
-use borrow.Author.Tests.{not-true, not-false}
 use Rattle.extrema.proofs.BatchStages.{marked_stop, marked_next}
 use Rattle.extrema.proofs.batches.mark_places.Goals as goal
 

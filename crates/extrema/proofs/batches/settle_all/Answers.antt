@@ -1,7 +1,6 @@
 -- `extrema::batches::settle_all` meets its contract. Assumes nothing.
 use mathlib.Core.Path.{refl, ◌∙◌}
 use native.Mathlib.Omega.{arith}
-use borrow.Author.Tests.{not-false}
 use Rattle.extrema.proofs.BatchLaws.{settled_none, settled_then}
 use Rattle.extrema.proofs.BatchStages.{front_stays, tried_not, tried_end}
 use Rattle.extrema.proofs.batches.settle_all.Goals as goal

@@ -7,7 +7,6 @@ use lib.Ieee.{nan}
 use Rattle.numbers.specs.Operations.{◌⊗◌}
 use Rattle.numbers.proofs.LoopLaws.{next, end}
 use Rattle.barycentric.proofs.LaneLaws.{fill_whole}
-use Rattle.chebyshev.specs.Angles.{whole}
 use borrow.Author.Rules.{rules}
 use Rattle.extrema.proofs.proxy.derive.Goals as goal
 

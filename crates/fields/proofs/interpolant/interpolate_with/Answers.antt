@@ -1,6 +1,5 @@
 -- `fields::interpolant::interpolate_with` meets its contract. Assumes nothing.
 use mathlib.Core.Path.{refl, sym, ◌∙◌}
-use borrow.Author.Tests.{not-true, not-false}
 use Rattle.numbers.proofs.OutcomeLaws.{bind_next, bind_stop, value_is, value_refused, taken_is, taken_refused, whole_is, whole_refused}
 use Rattle.barycentric.specs.Weights.{weights_for}
 use Rattle.barycentric.specs.Abscissas.{abscissas_for}

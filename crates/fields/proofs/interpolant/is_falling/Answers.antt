@@ -1,6 +1,6 @@
 -- `fields::interpolant::is_falling` meets its contract. Assumes nothing.
 use mathlib.Core.Path.{refl, ap}
-use mathlib.Core.Bool.{true, false, not}
+use mathlib.Core.Bool.{not}
 use native.Mathlib.Omega.{arith}
 use Rattle.numbers.proofs.LoopLaws.{seek_start, seek_stop, seek_next, seek_end}
 use Rattle.fields.specs.Interpolant.{falling}

@@ -1,6 +1,5 @@
 -- `fir_types::taps::h_from_ak` meets its contract. Assumes nothing.
 use mathlib.Core.Path.{sym, ◌∙◌}
-use borrow.Author.Tests.{not-true, not-false}
 use Rattle.numbers.proofs.OutcomeLaws.{fills_none}
 use Rattle.fir_types.specs.Taps.{taps_for}
 use Rattle.fir_types.proofs.TapLaws.{sized_fitting, in_range_most}

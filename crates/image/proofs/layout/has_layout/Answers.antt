@@ -1,7 +1,7 @@
 -- `image::layout::has_layout` meets its contract. Assumes nothing.
 use mathlib.Core.Path.{◌≡◌, sym, ap, ◌∙◌}
 use native.Mathlib.Omega.{arith}
-use borrow.Author.Tests.{eq-eqb, ne_eqb, not-true, not-false}
+use borrow.Author.Tests.{eq-eqb, ne_eqb}
 use lib.ListN.{length}
 use Rattle.numbers.specs.Loops.{every}
 use Rattle.image.specs.Image.{length_for, count_in, points_in, band_laid, layout}

@@ -1,6 +1,6 @@
 -- `image::layout::is_head_laid` meets its contract. Assumes nothing.
 use mathlib.Core.Path.{sym, ◌∙◌}
-use borrow.Author.Tests.{le-leb, lt-leb, eq-eqb, ne_eqb, not-true, not-false}
+use borrow.Author.Tests.{le-leb, lt-leb, eq-eqb, ne_eqb}
 use Rattle.image.specs.Image.{head_laid}
 use Rattle.image.proofs.layout.is_head_laid.Goals as goal
 

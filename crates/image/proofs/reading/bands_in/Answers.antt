@@ -3,7 +3,6 @@ use mathlib.Core.Path.{ap}
 use lib.ListN.{set}
 use Rattle.numbers.proofs.LoopLaws.{next, end}
 use Rattle.packing.proofs.Laws.{whole_start}
-use Rattle.image.specs.Image.{band_word}
 use borrow.Author.Rules.{rules}
 use Rattle.image.proofs.reading.bands_in.Goals as goal
 

@@ -2,7 +2,6 @@
 use mathlib.Core.Path.{ap}
 use lib.ListN.{set}
 use Rattle.numbers.proofs.LoopLaws.{next, end}
-use Rattle.packing.specs.Packing.{number}
 use Rattle.packing.proofs.Laws.{whole_start}
 use borrow.Author.Rules.{rules}
 use Rattle.packing.proofs.reading.points_in.Goals as goal

@@ -2,7 +2,6 @@
 use mathlib.Core.Path.{ap}
 use lib.ListN.{set}
 use Rattle.numbers.proofs.LoopLaws.{next, end}
-use Rattle.packing.specs.Packing.{bands_word}
 use Rattle.packing.proofs.Laws.{whole_start}
 use borrow.Author.Rules.{rules}
 use Rattle.packing.proofs.writing.bands_words.Goals as goal

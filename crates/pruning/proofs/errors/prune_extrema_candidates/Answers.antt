@@ -1,6 +1,5 @@
 -- `pruning::errors::prune_extrema_candidates` meets its contract. Assumes nothing.
 use mathlib.Core.Path.{sym, ◌∙◌}
-use borrow.Author.Tests.{not-true, not-false}
 use Rattle.numbers.proofs.OutcomeLaws.{fills_none}
 use Rattle.pruning.specs.Errors.{prune_for}
 use Rattle.pruning.proofs.Places.{fitting}

@@ -1,7 +1,6 @@
 -- `roots::brackets::cell_ends` meets its contract. Assumes nothing.
 use lib.ListN.{length-set}
 use Rattle.numbers.proofs.LoopLaws.{next, end}
-use Rattle.roots.specs.Brackets.{cell_end}
 use Rattle.roots.proofs.RowLaws.{fill_all}
 use Rattle.roots.proofs.brackets.cell_ends.Goals as goal
 

@@ -1,6 +1,5 @@
 -- `roots::brackets::cell_yields` meets its contract. Assumes nothing.
 use mathlib.Core.Path.{sym, ◌∙◌}
-use borrow.Author.Tests.{not-true, not-false}
 use Rattle.numbers.proofs.OutcomeLaws.{value_is, value_refused}
 use Rattle.roots.proofs.BracketLaws.{cell_left, cell_nothing, cell_halved}
 use Rattle.roots.proofs.brackets.cell_yields.Goals as goal

@@ -2,7 +2,6 @@
 use mathlib.Core.Path.{refl}
 use lib.ListN.{length-set}
 use Rattle.numbers.proofs.LoopLaws.{next, end}
-use Rattle.roots.specs.Brackets.{cell_end}
 use Rattle.roots.proofs.RowLaws.{fill_all}
 use Rattle.roots.proofs.brackets.eight_ends.Goals as goal
 

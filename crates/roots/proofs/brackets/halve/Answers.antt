@@ -1,6 +1,5 @@
 -- `roots::brackets::halve` meets its contract. Assumes nothing.
 use mathlib.Core.Path.{refl, ap, sym, ◌∙◌}
-use borrow.Author.Tests.{not-true, not-false}
 use Rattle.roots.specs.Brackets.{low_end}
 use Rattle.roots.proofs.BracketLaws.{halve_stop, halve_zero, halve_low, halve_high, halve_none}
 use Rattle.roots.proofs.brackets.halve.Goals as goal

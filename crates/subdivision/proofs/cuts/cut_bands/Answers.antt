@@ -1,6 +1,6 @@
 -- `subdivision::cuts::cut_bands` meets its contract. Assumes nothing.
-use mathlib.Core.Path.{◌≡◌, refl, sym, ◌∙◌}
-use lib.ListN.{length, length-map}
+use mathlib.Core.Path.{◌≡◌, refl}
+use lib.ListN.{length}
 use Rattle.subdivision.proofs.CutLaws.{divide_start, divide_next, divide_end}
 use borrow.Author.Rules.{rules}
 use Rattle.subdivision.proofs.cuts.cut_bands.Goals as goal

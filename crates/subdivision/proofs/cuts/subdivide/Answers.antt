@@ -1,6 +1,5 @@
 -- `subdivision::cuts::subdivide` meets its contract. Assumes nothing.
 use mathlib.Core.Path.{sym, ◌∙◌}
-use borrow.Author.Tests.{not-true, not-false}
 use lib.ListN.{length}
 use Rattle.numbers.proofs.OutcomeLaws.{answers_none, answers}
 use Rattle.subdivision.specs.Subdivide.{subdivide_for}

@@ -1,6 +1,5 @@
 -- `subdivision::first::initial_extremal_freqs` meets its contract. Assumes nothing.
 use mathlib.Core.Path.{sym, ◌∙◌}
-use borrow.Author.Tests.{not-true, not-false}
 use Rattle.numbers.proofs.OutcomeLaws.{fills_none}
 use Rattle.subdivision.specs.First.{first_for}
 use Rattle.subdivision.proofs.WalkLaws.{first-sized}

@@ -1,6 +1,5 @@
 -- `exchange::job::Job::loaded` meets its contract. Assumes nothing.
 use mathlib.Core.Path.{sym, ◌∙◌}
-use borrow.Author.Tests.{not-true, not-false}
 use Rattle.exchange.proofs.JobLaws.{no_job, disagreeing, agreeing}
 use Rattle.exchange.proofs.job.Job.loaded.Goals as goal
 

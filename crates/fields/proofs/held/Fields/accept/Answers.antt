@@ -1,6 +1,5 @@
 -- `fields::held::Fields::accept` meets its contract. Assumes nothing.
 use mathlib.Core.Path.{sym, ◌∙◌}
-use borrow.Author.Tests.{not-true, not-false}
 use Rattle.numbers.proofs.OutcomeLaws.{taken_is}
 use Rattle.fields.proofs.RequestLaws.{points_most, accepted_range}
 use Rattle.fields.proofs.AnswerLaws.{answered-nothing, counts_stop, request_stop, request_next}

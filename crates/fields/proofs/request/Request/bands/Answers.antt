@@ -1,6 +1,5 @@
 -- `fields::request::Request::bands` meets its contract. Assumes nothing.
 use mathlib.Core.Path.{refl, sym, ◌∙◌}
-use borrow.Author.Tests.{not-true, not-false}
 use Rattle.numbers.proofs.OutcomeLaws.{taken_is, taken_refused}
 use Rattle.fir_types.proofs.EdgeLaws.{edged_none}
 use Rattle.fields.specs.Request.{request_for}

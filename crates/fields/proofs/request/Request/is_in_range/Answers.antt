@@ -1,6 +1,6 @@
 -- `fields::request::Request::is_in_range` meets its contract. Assumes nothing.
 use mathlib.Core.Path.{sym, ◌∙◌}
-use borrow.Author.Tests.{not-true, not-false, le-leb, lt-leb}
+use borrow.Author.Tests.{le-leb, lt-leb}
 use Rattle.fields.specs.Request.{in_range}
 use Rattle.fields.proofs.request.Request.is_in_range.Goals as goal
 
