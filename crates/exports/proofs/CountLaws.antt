@@ -25,10 +25,10 @@ pub counted_one : {o : Outcome Told} (n : ℕ) (l : List Float) (c : List ℕ) {
 counted_one n l [] h e k = absurd (omega arith)
 counted_one n l (x ∷ c) h e k = rw (← e) (record { is = refl; counts = refl; out = k })
 
-pub counted-two : {o : Outcome Told} (n m : ℕ) (l : List Float) (c : List ℕ) {w w' : List Float} → 2 ≤ length c → gave (told (n ∷ m ∷ []) l) ≡ o → w' ≡ l ++ drop (length l) w → Counted o 0 c (set (set c 0 n) 1 m) w w'
-counted-two n m l [] h e k = absurd (omega arith)
-counted-two n m l (x ∷ []) h e k = absurd (omega arith)
-counted-two n m l (x ∷ y ∷ c) h e k = rw (← e) (record { is = refl; counts = refl; out = k })
+pub counted_two : {o : Outcome Told} (n m : ℕ) (l : List Float) (c : List ℕ) {w w' : List Float} → 2 ≤ length c → gave (told (n ∷ m ∷ []) l) ≡ o → w' ≡ l ++ drop (length l) w → Counted o 0 c (set (set c 0 n) 1 m) w w'
+counted_two n m l [] h e k = absurd (omega arith)
+counted_two n m l (x ∷ []) h e k = absurd (omega arith)
+counted_two n m l (x ∷ y ∷ c) h e k = rw (← e) (record { is = refl; counts = refl; out = k })
 
 -- numbers that a loop has written to the front
 pub tab-front : (f : ℕ → Float) (n : ℕ) (w : List Float) {w' : List Float} → w' ≡ tab f n 0 ++ drop n w → w' ≡ tab f n 0 ++ drop (length (tab f n 0)) w

@@ -67,10 +67,10 @@ unfolding EachPlaced tab
 placed-tab g zero i h = tt
 placed-tab g (suc n) i h = (h i (omega arith) (omega arith), placed-tab g n (i + 1) (λ k p q. h k (omega arith) (omega arith)))
 
-placed_insert : (c : Candidate) (l : List Candidate) → Placed c → EachPlaced l → EachPlaced (insert by_x c l)
+placed-insert : (c : Candidate) (l : List Candidate) → Placed c → EachPlaced l → EachPlaced (insert by_x c l)
 unfolding EachPlaced insert
-placed_insert c [] p q = (p, tt)
-placed_insert c (y ∷ l) p q = pick (lt (by_x c) (by_x y)) (placed_insert c l p q.1)
+placed-insert c [] p q = (p, tt)
+placed-insert c (y ∷ l) p q = pick (lt (by_x c) (by_x y)) (placed-insert c l p q.1)
   where
     pick : (t : Bool) → EachPlaced (insert by_x c l) → EachPlaced (cond t (c ∷ y ∷ l) (y ∷ insert by_x c l))
     pick true r = (p, q)
@@ -79,11 +79,11 @@ placed_insert c (y ∷ l) p q = pick (lt (by_x c) (by_x y)) (placed_insert c l p
 placed-onto : (s l : List Candidate) → EachPlaced s → EachPlaced l → EachPlaced (onto by_x s l)
 unfolding EachPlaced onto
 placed-onto s [] p q = p
-placed-onto s (c ∷ l) p q = placed-onto (insert by_x c s) l (placed_insert c s q.0 p) q.1
+placed-onto s (c ∷ l) p q = placed-onto (insert by_x c s) l (placed-insert c s q.0 p) q.1
 
-placed_sorted : (l : List Candidate) → EachPlaced l → EachPlaced (sorted by_x l)
+placed-sorted : (l : List Candidate) → EachPlaced l → EachPlaced (sorted by_x l)
 unfolding EachPlaced
-placed_sorted l q = placed-onto [] l tt q
+placed-sorted l q = placed-onto [] l tt q
 
 placed-sweep :
     (f : Interval → List Candidate → Outcome (List Candidate)) → ((v : Interval) (s t : List Candidate) → EachPlaced s → f v s ≡ gave t → EachPlaced t)
@@ -195,7 +195,7 @@ extrema_given c vs degree n l q =
     let at : ℕ → Candidate = λ k. get_or s k none in
     let z : map at k.value ≡ l = map-tab at k.value 0 ∙ gave_same k.rest in
     let w = leaf_gives (map error_of s) n n k.value k.given in
-    let p = chosen_placed s k.value (placed_sorted b.value (collected_placed c a.value vs b.value b.given)) in
+    let p = chosen_placed s k.value (placed-sorted b.value (collected_placed c a.value vs b.value b.given)) in
     rw (← z)
     (record {
       count = length-map k.value at ∙ w.count;

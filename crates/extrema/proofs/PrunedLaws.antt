@@ -24,7 +24,7 @@ use Rattle.pruning.specs.Alternation.{RisingFrom}
 use Rattle.pruning.specs.Errors.{sized, kept_places, prune_for}
 use Rattle.pruning.specs.Sort.{sorted_words}
 use Rattle.pruning.proofs.Places.{places_rise}
-use Rattle.pruning.proofs.SortLaws.{length_sorted_words, view_sorted}
+use Rattle.pruning.proofs.SortLaws.{length_sorted_words, view-sorted}
 use Rattle.extrema.specs.declared.Kept.{Kept}
 use Rattle.extrema.specs.Extrema.{error_of, chosen, kept_of, pruned_to, packed}
 
@@ -93,4 +93,4 @@ module _ (w w' : List ℕ) (count : ℕ) (e : w' ≡ sorted_words w count) where
       → Answers (packed []) (bind (kept_of n (view w' m)) (λ l. gave (packed l))) v k
       → Answers (packed []) (bind (pruned_to n (view w count)) (λ l. gave (packed l))) v k
   unfolding pruned_to
-  sorted_view n h a = rw (h, e, view_sorted w count) at a
+  sorted_view n h a = rw (h, e, view-sorted w count) at a

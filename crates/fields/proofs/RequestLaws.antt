@@ -41,36 +41,36 @@ functions_range taps Odd h =
 
 -- ---- a request in range, part by part
 module _ (r : Request) (h : in_range r ≡ true) where
-  abbrev taps-test : Bool
-  taps-test = taps_in_range r.taps r.symmetry
+  abbrev taps_test : Bool
+  taps_test = taps_in_range r.taps r.symmetry
 
-  abbrev least-test : Bool
-  least-test = leb 2 r.degree
+  abbrev least_test : Bool
+  least_test = leb 2 r.degree
 
-  abbrev most-test : Bool
-  most-test = leb r.degree 16
+  abbrev most_test : Bool
+  most_test = leb r.degree 16
 
-  degree_tests : (taps-test && least-test && most-test) ≡ true
+  degree_tests : (taps_test && least_test && most_test) ≡ true
   unfolding in_range
   degree_tests =
-      and_1 (taps-test && least-test && most-test) (leb r.exchanges most_exchanges)
-      (and_1 (taps-test && least-test && most-test && leb r.exchanges most_exchanges) (threshold_holds r.threshold) h)
+      and_1 (taps_test && least_test && most_test) (leb r.exchanges most_exchanges)
+      (and_1 (taps_test && least_test && most_test && leb r.exchanges most_exchanges) (threshold_holds r.threshold) h)
 
   pub taps_hold : taps_in_range r.taps r.symmetry ≡ true
-  taps_hold = and_1 taps-test least-test (and_1 (taps-test && least-test) most-test degree_tests)
+  taps_hold = and_1 taps_test least_test (and_1 (taps_test && least_test) most_test degree_tests)
 
   pub degree_least : 2 ≤ r.degree
-  degree_least = leb-true 2 r.degree (and_2 taps-test least-test (and_1 (taps-test && least-test) most-test degree_tests))
+  degree_least = leb-true 2 r.degree (and_2 taps_test least_test (and_1 (taps_test && least_test) most_test degree_tests))
 
   pub degree_most : r.degree ≤ 16
-  degree_most = leb-true r.degree 16 (and_2 (taps-test && least-test) most-test degree_tests)
+  degree_most = leb-true r.degree 16 (and_2 (taps_test && least_test) most_test degree_tests)
 
   pub exchanges_most : r.exchanges ≤ 100
   unfolding in_range
   exchanges_most =
       leb-true r.exchanges 100
-      (and_2 (taps-test && least-test && most-test) (leb r.exchanges most_exchanges)
-      (and_1 (taps-test && least-test && most-test && leb r.exchanges most_exchanges) (threshold_holds r.threshold) h))
+      (and_2 (taps_test && least_test && most_test) (leb r.exchanges most_exchanges)
+      (and_1 (taps_test && least_test && most_test && leb r.exchanges most_exchanges) (threshold_holds r.threshold) h))
 
   pub points_least : 3 ≤ points_of r
   points_least = let n = functions_range r.taps r.symmetry taps_hold in omega (arith, n.least)

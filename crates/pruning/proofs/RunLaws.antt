@@ -13,13 +13,13 @@ use Rattle.pruning.specs.Prune.{emit, turned, better, runs, runs_from, weaker, w
 
 module _ {A : Type 0} (negative : A → Bool) (size : A → Float) where
   -- ---- the runs of g 0, g 1, ..: m are kept in front of k, b is the best of the run that is open, and from i on all is to come
-  abbrev to-come : (ℕ → A) → ℕ → ℕ → A → List A
-  to-come g n i b = runs_from negative size b (tab g (n - i) i)
+  abbrev to_come : (ℕ → A) → ℕ → ℕ → A → List A
+  to_come g n i b = runs_from negative size b (tab g (n - i) i)
 
   pub record Running (g : ℕ → A) (n i m : ℕ) (b : A) (k : List A) (r : List A) : Type 0 where
     pub below : m < i
     pub within : i ≤ n
-    pub rest : take m k ++ to-come g n i b ≡ r
+    pub rest : take m k ++ to_come g n i b ≡ r
 
   module _ {g : ℕ → A} {n : ℕ} where
     pub runs_start : {k : List A} → 1 ≤ n → Running g n 1 0 (g 0) k (runs negative size (tab g n 0))
@@ -34,11 +34,11 @@ module _ {A : Type 0} (negative : A → Bool) (size : A → Float) where
 
     module _ {i m : ℕ} {b : A} {k r : List A} (a : Running g n i m b k r) (h : i < n) where
       after_turn : (t : Bool) → turned negative size b (g i) ≡ t
-          → take m k ++ emit t b (to-come g n (i + 1) (better negative size b (g i))) ≡ r
+          → take m k ++ emit t b (to_come g n (i + 1) (better negative size b (g i))) ≡ r
       unfolding tab runs_from
       after_turn t q =
           let e : n - i ≡ suc (n - (i + 1)) = omega arith in
-          subst (λ (z : Bool). take m k ++ emit z b (to-come g n (i + 1) (better negative size b (g i))) ≡ r) q (rw e at a.rest)
+          subst (λ (z : Bool). take m k ++ emit z b (to_come g n (i + 1) (better negative size b (g i))) ≡ r) q (rw e at a.rest)
 
       -- the sign turns: b is kept
       pub runs_turn : m < length k → turned negative size b (g i) ≡ true → Running g n (i + 1) (m + 1) (g i) (set k m b) r

@@ -212,9 +212,9 @@ module _ (w : List ℕ) (i : ℕ) (inside : i < length w / 2) where
       rw (raws_sorted w i, leftover_sorted w i, at, after, take_at s (drop i (raws w)) i long, more)
 
 -- more than there are is all
-pub sorted_min : (w : List ℕ) (m n : ℕ) → m ≡ min n (length w / 2) → sorted_words w m ≡ sorted_words w n
+pub sorted-min : (w : List ℕ) (m n : ℕ) → m ≡ min n (length w / 2) → sorted_words w m ≡ sorted_words w n
 unfolding sorted_words
-sorted_min w m n e = pick (leb n (length (raws w))) refl
+sorted-min w m n e = pick (leb n (length (raws w))) refl
   where
     pick : (t : Bool) → leb n (length (raws w)) ≡ t
         → words_of (sorted by_word (take m (raws w)) ++ drop m (raws w)) (leftover w)
@@ -226,11 +226,11 @@ sorted_min w m n e = pick (leb n (length (raws w))) refl
         rw (take_all n (raws w) a, take_all m (raws w) b, drop_of_length-le (raws w) {i = n} a, drop_of_length-le (raws w) {i = m} b)
 
 -- ---- the view of the sorted words is the sorted view
-map_insert : {A B : Type 0} (f : A → B) (key : B → Float) (c : A) (l : List A)
+map-insert : {A B : Type 0} (f : A → B) (key : B → Float) (c : A) (l : List A)
     → map f (insert (λ a. key (f a)) c l) ≡ insert key (f c) (map f l)
 unfolding insert
-map_insert f key c [] = refl
-map_insert {A} {B} f key c (y ∷ l) = pick (lt (key (f c)) (key (f y))) (map_insert f key c l)
+map-insert f key c [] = refl
+map-insert {A} {B} f key c (y ∷ l) = pick (lt (key (f c)) (key (f y))) (map-insert f key c l)
   where
     pick : (t : Bool) → map f (insert (λ a. key (f a)) c l) ≡ insert key (f c) (map f l)
         → map f (cond t (c ∷ y ∷ l) (y ∷ insert (λ a. key (f a)) c l)) ≡ cond t (f c ∷ f y ∷ map f l) (f y ∷ insert key (f c) (map f l))
@@ -241,7 +241,7 @@ map-onto : {A B : Type 0} (f : A → B) (key : B → Float) (s l : List A)
     → map f (onto (λ a. key (f a)) s l) ≡ onto key (map f s) (map f l)
 unfolding onto
 map-onto f key s [] = refl
-map-onto f key s (c ∷ l) = map-onto f key (insert (λ a. key (f a)) c s) l ∙ ap (λ z. onto key z (map f l)) (map_insert f key c s)
+map-onto f key s (c ∷ l) = map-onto f key (insert (λ a. key (f a)) c s) l ∙ ap (λ z. onto key z (map f l)) (map-insert f key c s)
 
 front_is : {A : Type 0} (key : A → Float) (n : ℕ) (l : List A) → take n (sorted key (take n l) ++ drop n l) ≡ sorted key (take n l)
 front_is key n l = pick (leb n (length l)) refl
@@ -253,9 +253,9 @@ front_is key n l = pick (leb n (length l)) refl
         let h : length l ≤ n = omega (arith, leb-false n (length l) t) in
         rw (drop_of_length-le l {i = n} h, append-nil, take_all n l h) (take_all n (sorted key l) (omega (arith, length_sorted key l)))
 
-pub view_sorted : (w : List ℕ) (n : ℕ) → view (sorted_words w n) n ≡ sorted by_x (view w n)
+pub view-sorted : (w : List ℕ) (n : ℕ) → view (sorted_words w n) n ≡ sorted by_x (view w n)
 unfolding all
-view_sorted w n =
+view-sorted w n =
     rw (
       raws_sorted w n,
       ← map_take candidate n (sorted by_word (take n (raws w)) ++ drop n (raws w)),
@@ -277,4 +277,4 @@ framed_within w n h =
     }
 
 pub framed_sorted : (w : List ℕ) (n : ℕ) → Framed (min n (length w / 2)) w (sorted_words w n)
-framed_sorted w n = rw (sorted_min w (min n (length w / 2)) n refl) at (framed_within w (min n (length w / 2)) (omega arith))
+framed_sorted w n = rw (sorted-min w (min n (length w / 2)) n refl) at (framed_within w (min n (length w / 2)) (omega arith))

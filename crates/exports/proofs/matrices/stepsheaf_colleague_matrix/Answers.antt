@@ -4,7 +4,7 @@ use Rattle.numbers.specs.Outcome.{gave}
 use Rattle.numbers.proofs.OutcomeLaws.{taken_is, taken_refused, bind_next, bind_stop}
 use Rattle.colleague.proofs.Given.{given_bounded}
 use Rattle.exports.specs.Matrices.{unrolled, balanced_matrix_for}
-use Rattle.exports.proofs.CountLaws.{counted_none, counted-two, tab-front}
+use Rattle.exports.proofs.CountLaws.{counted_none, counted_two, tab-front}
 use borrow.Author.Tests.{lt-leb, le-leb}
 use Rattle.exports.proofs.matrices.stepsheaf_colleague_matrix.Goals as goal
 
@@ -26,7 +26,7 @@ unfolding balanced_matrix_for
 returns-in-Taken c =
     let g = taken_is _ c.colleague_matrix-a.ensures.is c.in-Taken.is in
     rw (le-leb 2 _ c.if-counts-lt2.false, le-leb 225 _ c.if-out-lt225.false)
-    (counted-two _ _ _ _ c.if-counts-lt2.false (bind_next (λ m. gave (unrolled m)) g refl) (tab-front _ _ _ c.entries_into.ensures))
+    (counted_two _ _ _ _ c.if-counts-lt2.false (bind_next (λ m. gave (unrolled m)) g refl) (tab-front _ _ _ c.entries_into.ensures))
 
 pub returns-in-Refused : goal.returns-in-Refused
 unfolding balanced_matrix_for

@@ -1,7 +1,7 @@
 -- `pruning::candidates::sort_candidates` meets its contract. Assumes nothing.
 use mathlib.Core.Path.{◌∙◌}
 use native.Mathlib.Omega.{arith}
-use Rattle.pruning.proofs.SortLaws.{sorted_start, sorted_insertable, sorted_next, sorted_min, length_sorted_words}
+use Rattle.pruning.proofs.SortLaws.{sorted_start, sorted_insertable, sorted_next, sorted-min, length_sorted_words}
 use Rattle.pruning.proofs.candidates.sort_candidates.Goals as goal
 use Rattle.pruning.proofs.candidates.sort_candidates.Goals.{then-n-held, else-n-held}
 
@@ -35,4 +35,4 @@ pub returns : goal.returns
 returns c =
     let a = c.args in
     let l = c.loop-i in
-    l.invariant.2 ∙ sorted_min a.words.now l.i a.n (omega (arith, l.invariant.0, l.invariant.1))
+    l.invariant.2 ∙ sorted-min a.words.now l.i a.n (omega (arith, l.invariant.0, l.invariant.1))
