@@ -301,7 +301,10 @@ static Image damaged(void) {
     byte *b = i.bytes;
     for (word k = below(4); k; k--) {
         switch (below(12)) {
-        case 0: b[below(i.count)] ^= 1 << below(8); break;
+        case 0:
+            /* it may have been cut to nothing */
+            if (i.count) b[below(i.count)] ^= 1 << below(8);
+            break;
         case 1: b[below(28)] = chance(); break;
         case 2: i.count = below(4) ? i.count + below(9) - 4 : below(BYTES + 9); break;
         case 3: b[10] = below(3) ? below(8) : chance(); break;
