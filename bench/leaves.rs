@@ -11,9 +11,9 @@ mod plain;
 
 use plain::Matrix;
 
-/// A slice as the proved functions hand it to each other.
+/// How many passes balancing made, behind what tells whether there is a number.
 #[repr(C)]
-struct Slice<A>(*mut A, usize);
+struct Passes(u8, u64);
 
 extern "C" {
     fn stepsheaf_weights(x: *const f64, n: usize, out: *mut f64, room: usize) -> u64;
@@ -33,10 +33,10 @@ extern "C" {
     fn stepsheaf_coefficients(values: *const f64, n: usize, out: *mut f64, room: usize) -> u64;
     fn stepsheaf_sort_candidates(words: *mut u64, room: usize, n: usize);
     fn stepsheaf_prune(errors: *const f64, n: usize, keep: usize, out: *mut u64, room: usize) -> u64;
-    // Private ones, which bench/leaves gives a name: what they answer comes first, where it is more than a number.
-    fn bench_cell_residuals(a: *const Matrix, s: usize, g: *const Slice<f64>);
+    // Private ones, which bench/leaves gives a name: what they answer comes first, where two registers do not hold it.
+    fn bench_cell_residuals(a: *const Matrix, s: usize, g: *mut f64, cells: usize);
     fn bench_halve(answer: *mut [f64; 2], a: *const Matrix, s: usize, p: f64, low: f64, high: f64);
-    fn bench_balance_matrix(answer: *mut [u64; 2], a: *mut Matrix, n: usize);
+    fn bench_balance_matrix(a: *mut Matrix, n: usize) -> Passes;
 }
 
 /// A matrix and what is asked of it.
@@ -160,7 +160,7 @@ impl Bench {
     fn grid(&mut self, proved: bool, which: usize) {
         let Square { size, balanced, .. } = &self.squares[which][0];
         if proved {
-            unsafe { bench_cell_residuals(balanced, *size, &Slice(self.out.as_mut_ptr(), 65)) };
+            unsafe { bench_cell_residuals(balanced, *size, self.out.as_mut_ptr(), 65) };
         } else {
             plain::grid(balanced, *size, &mut self.out);
         }
@@ -184,9 +184,7 @@ impl Bench {
         let Square { size, built, .. } = &self.squares[which][0];
         self.matrix = *built;
         self.words[0] = if proved {
-            let mut answer = [0; 2];
-            unsafe { bench_balance_matrix(&mut answer, &mut self.matrix, *size) };
-            answer[1]
+            unsafe { bench_balance_matrix(&mut self.matrix, *size) }.1
         } else {
             plain::balance(&mut self.matrix, *size)
         };

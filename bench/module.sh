@@ -8,29 +8,29 @@ fail() {
 
 out=$PWD/target/bench
 mkdir -p "$out"
-home=$(dirname "$(dirname "$(rt doc)")")
-clang=$home/on/$(uname -m)/toolchain/bin/clang
+home=$(dirname "$(rt doc)")
+clang=$home/toolchain/bin/clang
 
 # The toolchain, with a compiler in front of its own that keeps what it is given.
 keep_module() { # keep_module CRATE FOLDER: makes target/bench/CRATE.ll
-    local own kit
-    own=on/$(uname -m)
-    kit=$out/kit
-    link() { # link FROM TO LEFT_OUT
+    local kit=$out/kit
+    link() { # link FROM TO: what TO has not yet
         local entry
         for entry in "$1"/*; do
-            [ "$(basename "$entry")" = "$3" ] || ln -s "$entry" "$2/"
+            [ -e "$2/$(basename "$entry")" ] || ln -s "$entry" "$2/"
         done
     }
-    rm -rf "$kit"
-    mkdir -p "$kit/$own/toolchain/bin"
-    link "$home" "$kit" on
-    link "$home/$own" "$kit/$own" toolchain
-    link "$home/$own/toolchain" "$kit/$own/toolchain" bin
-    link "$home/$own/toolchain/bin" "$kit/$own/toolchain/bin" clang
-    printf '#!/bin/sh\n[ ! -f module.bc ] || cp module.bc "%s"\nexec "%s" "$@"\n' "$out/$1.bc" "$clang" >"$kit/$own/toolchain/bin/clang"
-    chmod +x "$kit/$own/toolchain/bin/clang"
-    (cd "$2" && RATTLE_HOME=$kit rt staticlib "$1") >"$out/staticlib.log" 2>&1 || fail "$1 is not built; target/bench/staticlib.log says why"
+    rm -rf "$kit" "$out/$1.bc"
+    mkdir -p "$kit/bin" "$kit/toolchain/bin"
+    printf '#!/bin/sh\n[ ! -f module.bc ] || cp module.bc "%s"\nexec "%s" "$@"\n' "$out/$1.bc" "$clang" >"$kit/toolchain/bin/clang"
+    chmod +x "$kit/toolchain/bin/clang"
+    # rt takes the toolchain that it lies in, a link's that of its file.
+    cp "$home/bin/rt" "$home/bin/rtlib.py" "$kit/bin/"
+    link "$home" "$kit"
+    link "$home/bin" "$kit/bin"
+    link "$home/toolchain" "$kit/toolchain"
+    link "$home/toolchain/bin" "$kit/toolchain/bin"
+    (cd "$2/crates/$1" && "$kit/bin/rt" lib) >"$out/staticlib.log" 2>&1 || fail "$1 is not built; target/bench/staticlib.log says why"
     compile -S -emit-llvm "$out/$1.bc" -o "$out/$1.ll"
 }
 
@@ -40,7 +40,9 @@ compile() { # compile WORDS..
 
 # Gives a private function a name, so that it can be called alone.
 alias_of() { # alias_of CRATE NAME TYPE FUNCTION
-    grep -q "^define internal void @\"$4\"" "$out/$1.ll" || fail "the module has no $4"
+    local type
+    type=$(sed -n "s/^define internal \(.*\) @\"$4\"(\(.*\)) #.*/\1 (\2)/p" "$out/$1.ll" | sed 's/noundef //; s/ noundef//g; s/ %a[0-9]*//g')
+    [ "$type" = "$3" ] || fail "the module has no $4 of the type $3, but ${type:-none}"
     printf '@%s = alias %s, ptr @"%s"\n' "$2" "$3" "$4" >>"$out/$1.ll"
 }
 
