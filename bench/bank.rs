@@ -27,6 +27,8 @@ struct Bank {
     taps: [f64; 128],
     freqs: [f64; 65],
     report: [f64; 2],
+    made: [u64; 1],
+    // the bytes of the last image saved
     counts: [u64; 1],
     bytes: [u8; 948],
 }
@@ -45,7 +47,7 @@ impl Bank {
 
     fn read(&mut self, slot: usize) -> u64 {
         let (b, s, t, f) = (self.words.as_mut_ptr(), self.scratch.as_mut_ptr(), self.taps.as_mut_ptr(), self.freqs.as_mut_ptr());
-        unsafe { stepsheaf_read(b, 4096, s, 8192, slot, t, 128, f, 65, self.report.as_mut_ptr(), 2, self.counts.as_mut_ptr(), 1) }
+        unsafe { stepsheaf_read(b, 4096, s, 8192, slot, t, 128, f, 65, self.report.as_mut_ptr(), 2, self.made.as_mut_ptr(), 1) }
     }
 
     fn save(&mut self, slot: usize) -> u64 {
@@ -70,6 +72,7 @@ fn main() {
         taps: [0.0; 128],
         freqs: [0.0; 65],
         report: [0.0; 2],
+        made: [0],
         counts: [0],
         bytes: [0; 948],
     };

@@ -57,9 +57,6 @@ struct Report {
     verdict: Tagged,
 }
 
-#[repr(C)]
-struct Slice<A>(*mut A, usize);
-
 // The names that bench/designs gives to functions of the module. What is answered comes first.
 #[allow(improper_ctypes)]
 unsafe extern "C" {
@@ -67,15 +64,23 @@ unsafe extern "C" {
     fn bench_request(
         answer: *mut Answer<Asked>,
         taps: usize,
-        symmetry: *const u8,
+        symmetry: u8,
         degree: usize,
         exchanges: usize,
         threshold: f64,
         plan: *const Plan,
     );
     fn bench_open(answer: *mut Answer<Job>, request: *const Asked);
-    fn bench_step(answer: *mut Answer<Job>, job: *const Job, scratch: *const Slice<u64>);
-    fn bench_read(answer: *mut Report, job: *const Job, taps: *const Slice<f64>, freqs: *const Slice<f64>);
+    fn bench_step(answer: *mut Answer<Job>, job: *const Job, scratch: *mut u64, words: usize);
+    #[rustfmt::skip]
+    fn bench_read(
+        answer: *mut Report,
+        job: *const Job,
+        taps: *mut f64,
+        tap_room: usize,
+        freqs: *mut f64,
+        freq_room: usize,
+    );
 }
 
 const RUNNING: u8 = 0;
@@ -112,22 +117,22 @@ impl Proved {
         plan.0.iter_mut().zip(&request.bands).for_each(|(to, from)| *to = band(from));
         let symmetry = u8::from(request.symmetry == Symmetry::Odd);
         let (taps, degree, allowed, threshold) = (request.taps, request.degree, request.allowed, request.threshold);
-        unsafe { bench_request(&mut self.asked, taps, &symmetry, degree, allowed, threshold, &plan) };
+        unsafe { bench_request(&mut self.asked, taps, symmetry, degree, allowed, threshold, &plan) };
         assert_eq!(self.asked.1[0], 0, "the request is refused");
         unsafe { bench_open(&mut self.now, &self.asked.0) };
         assert_eq!(self.now.1[0], 0, "opening is refused");
     }
 
     fn step(&mut self) {
-        let scratch = Slice(self.scratch.as_mut_ptr(), self.scratch.len());
-        unsafe { bench_step(&mut self.next, &self.now.0, &scratch) };
+        let (scratch, words) = (self.scratch.as_mut_ptr(), self.scratch.len());
+        unsafe { bench_step(&mut self.next, &self.now.0, scratch, words) };
         assert_eq!(self.next.1[0], 0, "a step is refused");
         std::mem::swap(&mut self.now, &mut self.next);
     }
 
     fn read(&mut self) {
-        let (taps, freqs) = (Slice(self.taps.as_mut_ptr(), 128), Slice(self.freqs.as_mut_ptr(), 65));
-        unsafe { bench_read(&mut self.report, &self.now.0, &taps, &freqs) };
+        let (taps, freqs) = (self.taps.as_mut_ptr(), self.freqs.as_mut_ptr());
+        unsafe { bench_read(&mut self.report, &self.now.0, taps, 128, freqs, 65) };
         assert_eq!(self.report.verdict[0], 0, "the design is refused");
     }
 
