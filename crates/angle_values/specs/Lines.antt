@@ -1,29 +1,22 @@
 -- The stored list: what is read from a place on, where a line ends and which one it is.
-use Rattle.std.specs.Prelude.{ℕ, ◌+◌, cond, List, [], ◌∷◌, length, drop, ◌==◌, nat_eq, nat_lt, slice_index, Float}
+use Rattle.std.specs.Prelude.{ℕ, ◌+◌, cond, List, [], ◌∷◌, Option, Some, None, Result, Ok, Err, length, drop, ◌==◌, nat_eq, nat_lt, slice_index, Float}
+use Rattle.std.specs.Option.{option_and_then, option_map, option_map_or}
 use Rattle.numbers.specs.Loops.{run}
 use Rattle.numbers.specs.Words.{of_word, to_word}
-use Rattle.text.specs.declared.Token.{Token}
-use Rattle.text.specs.declared.Token.TheVariants as token
-use Rattle.text.specs.declared.Digits.{Digits}
-use Rattle.text.specs.declared.Digits.TheVariants as digits
+use Rattle.text.specs.declared.Word.{Word}
 use Rattle.text.specs.Parts.{part_of, same}
 use Rattle.text.specs.Words.{before, next_of}
 use Rattle.text.specs.Numerals.{hex_of}
 use Rattle.angle_values.specs.declared.list.Function.{Function}
 use Rattle.angle_values.specs.declared.list.Function.TheVariants as function
-use Rattle.angle_values.specs.declared.list.Named.{Named}
-use Rattle.angle_values.specs.declared.list.Named.TheVariants as named
-use Rattle.angle_values.specs.declared.list.Numeral.{Numeral}
-use Rattle.angle_values.specs.declared.list.Numeral.TheVariants as numeral
-use Rattle.angle_values.specs.declared.list.Line.{Line}
-use Rattle.angle_values.specs.declared.list.Line.TheVariants as line
+use Rattle.angle_values.specs.declared.list.Asked.{Asked}
+use Rattle.angle_values.specs.declared.list.Malformed.{Malformed}
 
 -- the number whose bits 16 digits spell; a NaN's spell none
-abbrev pub number_in : Digits → Numeral
-number_in (digits.Value w) = cond (to_word (of_word w) == w) (numeral.Of (of_word w)) numeral.Wrong
-number_in digits.Wrong = numeral.Wrong
+abbrev pub number_in : Option ℕ → Option Float
+number_in o = option_and_then (λ w. cond (to_word (of_word w) == w) (Some (of_word w)) None) o
 
-unfoldable pub number_of : List ℕ → ℕ → ℕ → Numeral
+unfoldable pub number_of : List ℕ → ℕ → ℕ → Option Float
 number_of s from to = number_in (hex_of s from to)
 
 -- the bytes of `cosine`, `sine` and `arccosine`
@@ -36,43 +29,28 @@ cosine_name = 99 ∷ 111 ∷ sine_name
 abbrev pub arccosine_name : List ℕ
 arccosine_name = 97 ∷ 114 ∷ 99 ∷ cosine_name
 
-unfoldable pub name_of : List ℕ → ℕ → ℕ → Named
+unfoldable pub name_of : List ℕ → ℕ → ℕ → Option Function
 name_of s from to =
-    cond (same (part_of s from to) cosine_name) (named.Of function.Cosine)
-    (cond (same (part_of s from to) sine_name) (named.Of function.Sine)
-    (cond (same (part_of s from to) arccosine_name) (named.Of function.Arccosine) named.Wrong))
+    cond (same (part_of s from to) cosine_name) (Some function.Cosine)
+    (cond (same (part_of s from to) sine_name) (Some function.Sine)
+    (cond (same (part_of s from to) arccosine_name) (Some function.Arccosine) None))
 
--- what follows a word, a name or a number; and what is said where there is none
-abbrev pub on_word : Token → Line → (ℕ → ℕ → Line) → Line
-on_word (token.Word from to) l k = k from to
-on_word token.End l k = l
+-- a name, from one place to before another, and a place and a value after it
+unfoldable pub asked_of : List ℕ → ℕ → ℕ → Option Asked
+asked_of s from to =
+    option_and_then (λ f.
+    option_and_then (λ (v : Word).
+    option_and_then (λ x.
+    option_and_then (λ (w : Word).
+    option_map (λ y. record { case = record { function = f; place = x; value = y }; from = from; to = w.to })
+    (number_of s w.from w.to)) (next_of s v.to)) (number_of s v.from v.to)) (next_of s to)) (name_of s from to)
 
-abbrev pub on_name : Named → Line → (Function → Line) → Line
-on_name (named.Of f) l k = k f
-on_name named.Wrong l k = l
+-- whatever else begins with a word is malformed, and named by where it begins
+abbrev pub asked_or_malformed : Option Asked → ℕ → Result Asked Malformed
+asked_or_malformed o from = option_map_or Ok o (Err (record { from = from }))
 
-abbrev pub on_number : Numeral → Line → (Float → Line) → Line
-on_number (numeral.Of x) l k = k x
-on_number numeral.Wrong l k = l
-
--- a name, a place and a value; whatever else begins with a word is malformed, and named by where it begins
-unfoldable pub value_after : List ℕ → Function → Float → ℕ → ℕ → Line
-value_after s f x begin at =
-    on_word (next_of s at) (line.Malformed begin) (λ from to.
-    on_number (number_of s from to) (line.Malformed begin) (λ y.
-    line.Asks (record { function = f; place = x; value = y }) begin to))
-
-unfoldable pub place_after : List ℕ → Function → ℕ → ℕ → Line
-place_after s f begin at =
-    on_word (next_of s at) (line.Malformed begin) (λ from to.
-    on_number (number_of s from to) (line.Malformed begin) (λ x.
-    value_after s f x begin to))
-
-unfoldable pub line_of : List ℕ → ℕ → Line
-line_of s at =
-    on_word (next_of s at) line.End (λ from to.
-    on_name (name_of s from to) (line.Malformed from) (λ f.
-    place_after s f from to))
+unfoldable pub line_of : List ℕ → ℕ → Option (Result Asked Malformed)
+line_of s at = option_map (λ (w : Word). asked_or_malformed (asked_of s w.from w.to) w.from) (next_of s at)
 
 -- the first newline from a place on, or the end
 unfoldable pub line_end : List ℕ → ℕ → ℕ

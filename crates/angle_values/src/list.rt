@@ -1,9 +1,10 @@
 // The stored list, line by line: a function's name, a place and the host's value there.
-ghost use Rattle.std.specs.Prelude.{◌≡◌, ◌≤◌, length};
-ghost use Rattle.angle_values.specs.Lines.{number_of, name_of, value_after, place_after, line_of, line_end, newlines, line_number};
+ghost use Rattle.std.specs.Prelude.{◌≡◌, ◌+◌, ◌==◌, count_by};
+ghost use Rattle.std.specs.List.{position};
+ghost use Rattle.angle_values.specs.Lines.{number_of, name_of, asked_of, line_of, line_end, line_number};
 
 use numbers::{of_word, to_word};
-use text::{Digits, Token};
+use text::Word;
 
 #[derive(Clone, Copy)]
 pub enum Function {
@@ -19,135 +20,100 @@ pub struct Case {
     pub value: f64,
 }
 
-// What is read from a place on: a case and where it begins and ends, something else and where it begins, or the end.
+// A case, and where it begins and ends.
 #[derive(Clone, Copy)]
-pub enum Line {
-    Asks(Case, usize, usize),
-    Malformed(usize),
-    End,
+pub struct Asked {
+    pub case: Case,
+    pub from: usize,
+    pub to: usize,
 }
 
+// Where something else begins.
 #[derive(Clone, Copy)]
-enum Numeral {
-    Of(f64),
-    Wrong,
-}
-
-#[derive(Clone, Copy)]
-enum Named {
-    Of(Function),
-    Wrong,
+pub struct Malformed {
+    pub from: usize,
 }
 
 // A NaN's digits are none.
-fn number(s: &[u8], from: usize, to: usize) -> Numeral
-    ensures { result ≡ number_of s.now from to }
+// Kept: no plainer: digits of bits are no number that the library reads.
+#[tactic(auto, unfolding(crate::specs::Lines::number_of))]
+fn number(s: &[u8], word: Word) -> Option<f64>
+    ensures { result ≡ number_of s.now word.from word.to }
 {
-    let Digits::Value(w) = text::hex(s, from, to) else {
-        return Numeral::Wrong;
-    };
+    let w = text::hex(s, word)?;
     let x = of_word(w);
-    if to_word(x) == w {
-        Numeral::Of(x)
+    (to_word(x) == w).then_some(x)
+}
+
+#[tactic(auto, unfolding(crate::specs::Lines::name_of))]
+fn name(s: &[u8], word: Word) -> Option<Function>
+    ensures { result ≡ name_of s.now word.from word.to }
+{
+    if text::is(s, word, b"cosine") {
+        Some(Function::Cosine)
+    } else if text::is(s, word, b"sine") {
+        Some(Function::Sine)
+    } else if text::is(s, word, b"arccosine") {
+        Some(Function::Arccosine)
     } else {
-        Numeral::Wrong
+        None
     }
 }
 
-fn name(s: &[u8], from: usize, to: usize) -> Named
-    ensures { result ≡ name_of s.now from to }
+#[tactic(auto, unfolding(crate::specs::Lines::asked_of))]
+fn asked_at(s: &[u8], word: Word) -> Option<Asked>
+    ensures { result ≡ asked_of s.now word.from word.to }
 {
-    if text::is(s, from, to, b"cosine") {
-        return Named::Of(Function::Cosine);
-    }
-    if text::is(s, from, to, b"sine") {
-        return Named::Of(Function::Sine);
-    }
-    if text::is(s, from, to, b"arccosine") {
-        return Named::Of(Function::Arccosine);
-    }
-    Named::Wrong
+    let function = name(s, word)?;
+    let first = text::next(s, word.to)?;
+    let place = number(s, first)?;
+    let second = text::next(s, first.to)?;
+    let value = number(s, second)?;
+    Some(Asked {
+        case: Case {
+            function,
+            place,
+            value,
+        },
+        from: word.from,
+        to: second.to,
+    })
 }
 
-fn value_after(s: &[u8], function: Function, place: f64, begin: usize, at: usize) -> Line
-    ensures { result ≡ value_after s.now function place begin at }
-{
-    let Token::Word(from, to) = text::next(s, at) else {
-        return Line::Malformed(begin);
-    };
-    let Numeral::Of(value) = number(s, from, to) else {
-        return Line::Malformed(begin);
-    };
-    let case = Case {
-        function,
-        place,
-        value,
-    };
-    Line::Asks(case, begin, to)
-}
-
-fn place_after(s: &[u8], function: Function, begin: usize, at: usize) -> Line
-    ensures { result ≡ place_after s.now function begin at }
-{
-    let Token::Word(from, to) = text::next(s, at) else {
-        return Line::Malformed(begin);
-    };
-    let Numeral::Of(place) = number(s, from, to) else {
-        return Line::Malformed(begin);
-    };
-    value_after(s, function, place, begin, to)
-}
-
-// The next line from a place on.
-pub fn read(s: &[u8], at: usize) -> Line
+// What is read from a place on: a case or something else, or nothing more.
+#[tactic(auto, unfolding(crate::specs::Lines::line_of))]
+pub fn read(s: &[u8], at: usize) -> Option<Result<Asked, Malformed>>
     ensures { result ≡ line_of s.now at }
 {
-    let Token::Word(from, to) = text::next(s, at) else {
-        return Line::End;
-    };
-    let Named::Of(function) = name(s, from, to) else {
-        return Line::Malformed(from);
-    };
-    place_after(s, function, from, to)
+    let word = text::next(s, at)?;
+    Some(asked_at(s, word).ok_or(Malformed { from: word.from }))
+}
+
+fn newline(s: &[u8]) -> Option<usize>
+    ensures { result ≡ position (λ b. b == 10) s.now }
+{
+    s.iter().position(|&b| b == b'\n')
 }
 
 // Where the line of a place ends.
 pub fn line_end(s: &[u8], at: usize) -> usize
     ensures { result ≡ line_end s.now at }
 {
-    let mut i = at;
-    while i < s.len() {
-        if s[i] == b'\n' {
-            return i;
-        }
-        i += 1;
+    match s.get(at..) {
+        Some(rest) => at + newline(rest).unwrap_or(rest.len()),
+        None => at,
     }
-    i
 }
 
-// One more than the newlines of the first bytes.
-fn lines(s: &[u8], count: usize) -> u64
-    requires { count ≤ length s.now }
-    ensures { result ≡ newlines s.now count }
+fn newlines(s: &[u8]) -> usize
+    ensures { result ≡ count_by (λ b. b == 10) s.now }
 {
-    let mut n: u64 = 1;
-    let mut i = 0;
-    while i < count {
-        if s[i] == b'\n' {
-            n += 1;
-        }
-        i += 1;
-    }
-    n
+    s.iter().filter(|b| **b == b'\n').count()
 }
 
 // The number of a place's line, from 1.
 pub fn line_number(s: &[u8], at: usize) -> u64
     ensures { result ≡ line_number s.now at }
 {
-    if at < s.len() {
-        lines(s, at)
-    } else {
-        lines(s, s.len())
-    }
+    newlines(&s[..at.min(s.len())]) as u64 + 1
 }

@@ -1,12 +1,14 @@
 // Angles: cosine and sine on 0 to 3.25, arccosine on -1 to 1, as ordered operations.
 #![tactic(auto)]
 
-ghost use Rattle.std.specs.Prelude.{◌≡◌};
-ghost use Rattle.numbers.specs.Refusals.{scalar_of};
-ghost use Rattle.angles.specs.Turns.{taken, cosine_at, sine_at, cosine_of, sine_of};
-ghost use Rattle.angles.specs.Arccosine.{even_terms, odd_terms, arcsine_part, arcsine, near_at, far_at, in_unit, arccosine_at, arccosine_of};
+ghost use Rattle.std.specs.Prelude.{◌≡◌, cond, false};
+ghost use Rattle.std.specs.Float.Ieee.{le};
+ghost use Rattle.numbers.specs.Outcome.{gave, unless};
+ghost use Rattle.numbers.specs.Refusals.{outcome_of};
+ghost use Rattle.angles.specs.Turns.{cosine_at, sine_at, cosine_of, sine_of};
+ghost use Rattle.angles.specs.Arccosine.{even_terms, odd_terms, arcsine_part, arcsine, near_at, far_at, arccosine_at, arccosine_of};
 
-use numbers::{Refusal, Scalar, clamped, magnitude};
+use numbers::{Refusal, clamped, magnitude};
 
 mod root;
 mod series;
@@ -23,12 +25,22 @@ const QUARTER_PI: f64 = 0.7853981633974483;
 
 const THREE_QUARTERS_PI: f64 = 2.356194490192345;
 
-fn is_taken(x: f64) -> bool
-    ensures { result ≡ taken x }
+// The largest angle taken.
+const WIDEST: f64 = 3.25;
+
+// A number from low to high as it is; refusal 9 for any other and for a NaN.
+fn within(x: f64, low: f64, high: f64) -> Result<f64, Refusal>
+    ensures { outcome_of result ≡ unless (cond (le low x) (le x high) false) 9 (gave x) }
 {
-    if 0.0 <= x { x <= 3.25 } else { false }
+    if low <= x && x <= high {
+        Ok(x)
+    } else {
+        Err(Refusal::NotFinite)
+    }
 }
 
+// Kept: no plainer: cosine's and sine's three parts differ in the series and in a sign.
+#[tactic(auto, unfolding(crate::specs::Turns::cosine_at))]
 fn folded_cosine(x: f64) -> f64
     ensures { result ≡ cosine_at x }
 {
@@ -41,6 +53,7 @@ fn folded_cosine(x: f64) -> f64
     0.0 - series::cosine_part((PI - x) + PI_TAIL)
 }
 
+#[tactic(auto, unfolding(crate::specs::Turns::sine_at))]
 fn folded_sine(x: f64) -> f64
     ensures { result ≡ sine_at x }
 {
@@ -54,25 +67,21 @@ fn folded_sine(x: f64) -> f64
 }
 
 // The cosine of an angle from 0 to 3.25; refusal 9 for any other number and for a NaN.
-pub fn cosine(x: f64) -> Scalar
-    ensures { scalar_of result ≡ cosine_of x }
+#[tactic(auto, unfolding(crate::specs::Turns::cosine_of, crate::specs::Turns::taken))]
+pub fn cosine(x: f64) -> Result<f64, Refusal>
+    ensures { outcome_of result ≡ cosine_of x }
 {
-    if is_taken(x) {
-        Scalar::Value(clamped(folded_cosine(x), -1.0, 1.0))
-    } else {
-        Scalar::Refused(Refusal::NotFinite)
-    }
+    let angle = within(x, 0.0, WIDEST)?;
+    Ok(clamped(folded_cosine(angle), -1.0, 1.0))
 }
 
 // The sine of an angle from 0 to 3.25; refusal 9 for any other number and for a NaN.
-pub fn sine(x: f64) -> Scalar
-    ensures { scalar_of result ≡ sine_of x }
+#[tactic(auto, unfolding(crate::specs::Turns::sine_of, crate::specs::Turns::taken))]
+pub fn sine(x: f64) -> Result<f64, Refusal>
+    ensures { outcome_of result ≡ sine_of x }
 {
-    if is_taken(x) {
-        Scalar::Value(clamped(folded_sine(x), -1.0, 1.0))
-    } else {
-        Scalar::Refused(Refusal::NotFinite)
-    }
+    let angle = within(x, 0.0, WIDEST)?;
+    Ok(clamped(folded_sine(angle), -1.0, 1.0))
 }
 
 fn even_terms(w: f64) -> f64
@@ -96,6 +105,7 @@ fn odd_terms(w: f64) -> f64
                     + w * (0.005457506718640358 - w * 0.014851887071247204))))
 }
 
+#[tactic(auto, unfolding(crate::specs::Arccosine::arcsine_part))]
 fn arcsine_part(z: f64) -> f64
     ensures { result ≡ arcsine_part z }
 {
@@ -103,12 +113,14 @@ fn arcsine_part(z: f64) -> f64
     even_terms(w) + z * odd_terms(w)
 }
 
+#[tactic(auto, unfolding(crate::specs::Arccosine::arcsine))]
 fn arcsine_of(s: f64, z: f64) -> f64
     ensures { result ≡ arcsine s z }
 {
     s + s * (z * arcsine_part(z))
 }
 
+#[tactic(auto, unfolding(crate::specs::Arccosine::near_at))]
 fn near(x: f64) -> f64
     ensures { result ≡ near_at x }
 {
@@ -121,6 +133,7 @@ fn near(x: f64) -> f64
     }
 }
 
+#[tactic(auto, unfolding(crate::specs::Arccosine::far_at))]
 fn far(x: f64) -> f64
     ensures { result ≡ far_at x }
 {
@@ -134,12 +147,7 @@ fn far(x: f64) -> f64
     }
 }
 
-fn is_in_unit(x: f64) -> bool
-    ensures { result ≡ in_unit x }
-{
-    if -1.0 <= x { x <= 1.0 } else { false }
-}
-
+#[tactic(auto, unfolding(crate::specs::Arccosine::arccosine_at))]
 fn folded_arccosine(x: f64) -> f64
     ensures { result ≡ arccosine_at x }
 {
@@ -147,12 +155,10 @@ fn folded_arccosine(x: f64) -> f64
 }
 
 // The arccosine of a number from -1 to 1; refusal 9 for any other and for a NaN.
-pub fn arccosine(x: f64) -> Scalar
-    ensures { scalar_of result ≡ arccosine_of x }
+#[tactic(auto, unfolding(crate::specs::Arccosine::arccosine_of, crate::specs::Arccosine::in_unit))]
+pub fn arccosine(x: f64) -> Result<f64, Refusal>
+    ensures { outcome_of result ≡ arccosine_of x }
 {
-    if is_in_unit(x) {
-        Scalar::Value(clamped(folded_arccosine(x), 0.0, PI))
-    } else {
-        Scalar::Refused(Refusal::NotFinite)
-    }
+    let cosine = within(x, -1.0, 1.0)?;
+    Ok(clamped(folded_arccosine(cosine), 0.0, PI))
 }

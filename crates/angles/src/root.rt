@@ -8,62 +8,70 @@ pub struct Scaled {
     pub unit: f64,
 }
 
-fn raised(bound: f64, up: f64, down: f64, s: Scaled) -> Scaled
-    ensures { result ≡ raise bound up down s }
-{
-    if s.square < bound {
-        Scaled {
-            square: s.square * up,
-            unit: s.unit * down,
+impl Scaled {
+    // Below the bound, up by a power of four; the root goes down by the power of two.
+    #[tactic(auto, unfolding(crate::specs::Root::raise))]
+    fn raised(self, bound: f64, up: f64, down: f64) -> Scaled
+        ensures { result ≡ raise bound up down self }
+    {
+        if self.square < bound {
+            Scaled {
+                square: self.square * up,
+                unit: self.unit * down,
+            }
+        } else {
+            self
         }
-    } else {
-        s
+    }
+
+    // Into 2^-10 to 2^-2.
+    #[tactic(auto, unfolding(crate::specs::Root::lift))]
+    fn lifted(self) -> Scaled
+        ensures { result ≡ lift self }
+    {
+        if self.square < 0.0009765625 {
+            self.raised(3.725290298461914e-09, 67108864.0, 0.0001220703125)
+                .raised(1.52587890625e-05, 16384.0, 0.0078125)
+                .raised(0.0009765625, 256.0, 0.0625)
+        } else {
+            self
+        }
+    }
+
+    // Into 2^-4 to 2^-2.
+    #[tactic(auto, unfolding(crate::specs::Root::settle))]
+    fn settled(self) -> Scaled
+        ensures { result ≡ settle self }
+    {
+        if self.square < 0.0625 {
+            self.raised(0.015625, 16.0, 0.25).raised(0.0625, 4.0, 0.5)
+        } else {
+            self
+        }
+    }
+
+    #[tactic(auto, unfolding(crate::specs::Root::root_in))]
+    fn root(self) -> f64
+        ensures { result ≡ root_in self }
+    {
+        let z = self.square;
+        let a = 0.136 + z * (2.0 - 2.2 * z);
+        let b = heron_step(z, a);
+        let c = heron_step(z, b);
+        let y = heron_step(z, c);
+        y * self.unit
     }
 }
 
-// Into 2^-10 to 2^-2.
-fn lifted(s: Scaled) -> Scaled
-    ensures { result ≡ lift s }
-{
-    if s.square < 0.0009765625 {
-        let a = raised(3.725290298461914e-09, 67108864.0, 0.0001220703125, s);
-        let b = raised(1.52587890625e-05, 16384.0, 0.0078125, a);
-        raised(0.0009765625, 256.0, 0.0625, b)
-    } else {
-        s
-    }
-}
-
-// Into 2^-4 to 2^-2.
-fn settled(s: Scaled) -> Scaled
-    ensures { result ≡ settle s }
-{
-    if s.square < 0.0625 {
-        let a = raised(0.015625, 16.0, 0.25, s);
-        raised(0.0625, 4.0, 0.5, a)
-    } else {
-        s
-    }
-}
-
+#[tactic(auto, unfolding(crate::specs::Root::heron))]
 fn heron_step(z: f64, y: f64) -> f64
     ensures { result ≡ heron z y }
 {
     0.5 * (y + z / y)
 }
 
-fn root_in(s: Scaled) -> f64
-    ensures { result ≡ root_in s }
-{
-    let z = s.square;
-    let a = 0.136 + z * (2.0 - 2.2 * z);
-    let b = heron_step(z, a);
-    let c = heron_step(z, b);
-    let y = heron_step(z, c);
-    y * s.unit
-}
-
 // The square root: meant for 0 and for 2^-54 to 1/4.
+#[tactic(auto, unfolding(crate::specs::Root::root_of))]
 pub fn root(z: f64) -> f64
     ensures { result ≡ root_of z }
 {
@@ -74,7 +82,5 @@ pub fn root(z: f64) -> f64
         square: z,
         unit: 1.0,
     };
-    let t = lifted(s);
-    let u = settled(t);
-    root_in(u)
+    s.lifted().settled().root()
 }

@@ -7,6 +7,7 @@ fn by_cubic(w: f64, a: f64, b: f64, c: f64, d: f64) -> f64
     a + w * (b + w * (c + w * d))
 }
 
+// Kept: no plainer: one of any length would be a loop over an array in place of this line.
 fn by_square(w: f64, a: f64, b: f64, c: f64) -> f64
     ensures { result ≡ square w a b c }
 {
@@ -14,6 +15,7 @@ fn by_square(w: f64, a: f64, b: f64, c: f64) -> f64
 }
 
 // Sine by its series: meant for -PI / 4 to PI / 4.
+#[tactic(auto, unfolding(crate::specs::Series::sine_part))]
 pub fn sine_part(r: f64) -> f64
     ensures { result ≡ sine_part r }
 {
@@ -37,6 +39,7 @@ pub fn sine_part(r: f64) -> f64
 }
 
 // Cosine by its series: meant for -PI / 4 to PI / 4.
+#[tactic(auto, unfolding(crate::specs::Series::cosine_part))]
 pub fn cosine_part(r: f64) -> f64
     ensures { result ≡ cosine_part r }
 {

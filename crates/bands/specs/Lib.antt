@@ -1,2 +1,3 @@
+pub mod Numbered
 pub mod Lookup
 pub mod Rules

@@ -1,127 +1,162 @@
 -- What clear, open, restore and step give on a slot, by what its words hold before a job has judged itself. Assumes nothing.
+use Rattle.std.specs.Prelude.{Result, Ok, Err}
 use Prim.Native.Nat.{ℕ}
 use mathlib.Core.Path.{◌≡◌, refl, sym, ap, ◌∙◌}
-use mathlib.Core.Bool.{Bool, true, false, cond}
+use mathlib.Core.Bool.{Bool, true, false, cond, true≢false}
 use mathlib.Core.List.{List, []}
+use lib.Ieee.{Float}
 use lib.ListN.{length, replicate}
 use Rattle.numbers.specs.declared.Refusal.{Refusal}
-use Rattle.numbers.specs.declared.Verdict.{Verdict}
-use Rattle.numbers.specs.declared.Verdict.TheVariants as verdict
 use Rattle.numbers.specs.Outcome.{Outcome, refused, gave, bind}
-use Rattle.numbers.specs.Refusals.{refusal_number, verdict_of, Answers}
-use Rattle.numbers.proofs.Given.{never_given}
+use Rattle.numbers.specs.Refusals.{verdict_of}
+use Rattle.numbers.proofs.Given.{gave_same, never_given}
 use Rattle.fields.specs.declared.request.Request.{Request}
 use Rattle.fields.specs.declared.held.Fields.{Fields}
 use Rattle.fields.specs.Accept.{accept_of, opening}
-use Rattle.exchange.specs.declared.job.Opened.{Opened}
-use Rattle.exchange.specs.declared.step.Stepped.{Stepped}
 use Rattle.exchange.specs.Job.{Held, held, held_of, standing_by, job_for, opened_of, Resuming, Opening, Checked}
-use Rattle.image.specs.Image.{image_for, blank}
-use Rattle.exchange.specs.Step.{Next, step_of, ready_for, next_of}
-use Rattle.bank.specs.declared.Answer.{Answer}
+use Rattle.image.specs.Image.{image_for}
+use Rattle.exchange.specs.Step.{Next, step_of, ready_for}
 use Rattle.bank.specs.Sizes.{Sizes, full}
 use Rattle.bank.specs.Slot.{slot_words, is_given, Loaded, empty, broken, holds}
-use Rattle.bank.specs.Calls.{Call, told_by, plainly, number_of, gives, taps_of, freqs_of, bytes_of, open_for, restored, restore_for, placing, answered, step_held, on_loaded, on_slot, Settled}
-use Rattle.bank.specs.Content.{packed_of, judged, Placed}
+use Rattle.bank.specs.Calls.{Call, told_by, tell_done, plainly, gives, taps_of, freqs_of, bytes_of, open_for, restored, restore_for, placing, answered, step_held, on_loaded, on_slot, Settled}
+use Rattle.bank.specs.Content.{packed_of, judged, vacant_for, near_for}
 use Rattle.bank.proofs.Judging.{judged_load, no_job_4, packed_words}
 
 pub on_content : (σ : Sizes) (call : Call) (ws : List ℕ) (l : Loaded) → l ≡ packed_of ws → on_slot σ call ws ≡ on_loaded σ call (judged l) ws
 unfolding on_slot
 on_content σ call ws l e = ap (λ (k : Loaded). on_loaded σ call k ws) (judged_load ws ∙ ap judged (sym e))
 
--- a call that has nothing more to tell
-pub settled_plain : (call : Call) (ws ws' : List ℕ) (n : ℕ) (r : Answer) → on_slot full call ws ≡ gives call n ws' → told_by r ≡ plainly n
-    → Settled (on_slot full call ws) r ws' (taps_of call) (freqs_of call) (bytes_of call)
-settled_plain call ws ws' n r e h = rw e (record { told = h; slot = refl; taps = refl; freqs = refl; bytes = refl })
-
 -- a call that only answers, by what the words hold
-pub settled_content : (call : Call) (ws : List ℕ) (a : Answer) (l : Loaded) (n : ℕ) → l ≡ packed_of ws → on_loaded full call (judged l) ws ≡ gives call n ws → told_by a ≡ plainly n
-    → Settled (on_slot full call ws) a ws (taps_of call) (freqs_of call) (bytes_of call)
-settled_content call ws a l n e o h = settled_plain call ws ws n a (on_content full call ws l e ∙ o) h
+settled_content : (call : Call) (ws : List ℕ) (l : Loaded) (n : ℕ) → l ≡ packed_of ws → on_loaded full call (judged l) ws ≡ gives call n ws
+    → Settled (on_slot full call ws) (plainly n) ws (taps_of call) (freqs_of call) (bytes_of call)
+settled_content call ws l n e o = rw (on_content full call ws l e ∙ o) (record { told = refl; slot = refl; taps = refl; freqs = refl; bytes = refl })
 
 -- ---- clear
-pub settled_clear : (ws ws' : List ℕ) (r : Answer) → ws' ≡ replicate (length ws) 0 → told_by r ≡ plainly 0 → Settled (on_slot full Call.clear ws) r ws' [] [] []
+pub settled_clear : (ws ws' : List ℕ) → ws' ≡ replicate (length ws) 0 → Settled (on_slot full Call.clear ws) (plainly 0) ws' [] [] []
 unfolding on_slot
-settled_clear ws ws' r e h = record { told = h; slot = e; taps = refl; freqs = refl; bytes = refl }
+settled_clear ws ws' e = record { told = refl; slot = e; taps = refl; freqs = refl; bytes = refl }
 
--- ---- a check tells whether it is a job
-is_taken : {A : Type 0} (o : Outcome A) → gave (tt {0}) ≡ bind o (λ _. gave tt) → is_given o ≡ true
-is_taken (refused n) e = absurd (never_given (sym e))
-is_taken (gave a) e = refl
-
-is_refused : {A : Type 0} {m : ℕ} (o : Outcome A) → refused m ≡ bind o (λ _. gave (tt {0})) → is_given o ≡ false
-is_refused (refused n) e = refl
-is_refused (gave a) e = absurd (never_given e)
-
-pub check_taken : (j : Held) (v : Verdict) → Checked j v → v ≡ verdict.Taken → is_given (job_for j) ≡ true
-check_taken j v h t = is_taken (job_for j) (ap (λ (x : Verdict). verdict_of x (tt {0})) (sym t) ∙ h)
-
-pub check_refused : (j : Held) (v : Verdict) (q : Refusal) → Checked j v → v ≡ verdict.Refused q → is_given (job_for j) ≡ false
-check_refused j v q h t = is_refused (job_for j) (ap (λ (x : Verdict). verdict_of x (tt {0})) (sym t) ∙ h)
-
--- ---- a job put into a slot, or refused
-pub placed-taken : (v : Verdict) (j : Held) (r : Answer) (ws ws' : List ℕ) → v ≡ verdict.Taken → told_by r ≡ plainly 0 → ws' ≡ slot_words (length ws) j → Placed (verdict_of v j) r ws ws'
-placed-taken v j r ws ws' e h w = rw e (record { told = h; slot = w })
-
-pub placed_refused : (v : Verdict) (j : Held) (r : Answer) (ws : List ℕ) (q : Refusal) → v ≡ verdict.Refused q → told_by r ≡ plainly (refusal_number q) → Placed (verdict_of v j) r ws ws
-placed_refused v j r ws q e h = rw e (record { told = h; slot = refl })
-
--- ---- a call that asks for an empty slot: open and restore
-pub record Fresh (call : Call) : Type 0 where
+-- ---- a call that asks for an empty slot: open and restore, by the job that it puts there
+pub record Fresh (call : Call) (o : Outcome Held) : Type 0 where
+  pub empty_0 : (ws : List ℕ) → on_loaded full call empty ws ≡ placing call ws o
   pub broken_4 : (ws : List ℕ) → on_loaded full call broken ws ≡ gives call 4 ws
   pub holds_3 : (j : Held) (ws : List ℕ) → on_loaded full call (holds j) ws ≡ gives call 3 ws
 
-occupied_by : (call : Call) (j : Held) (ws : List ℕ) (g : Bool) → Fresh call → on_loaded full call (cond g (holds j) broken) ws ≡ gives call (cond g 3 4) ws
-occupied_by call j ws true h = h.holds_3 j ws
-occupied_by call j ws false h = h.broken_4 ws
+occupied_by : (call : Call) (o : Outcome Held) (j : Held) (ws : List ℕ) (g : Bool) → Fresh call o → on_loaded full call (cond g (holds j) broken) ws ≡ gives call (cond g 3 4) ws
+occupied_by call o j ws true h = h.holds_3 j ws
+occupied_by call o j ws false h = h.broken_4 ws
 
-resumed_in : (v : Verdict) (j h : Held) {A : Type 0} (a : Outcome A) → verdict_of v (tt {0}) ≡ bind a (λ _. gave tt) → j ≡ h → verdict_of v j ≡ bind a (λ _. gave h)
-resumed_in verdict.Taken j h (refused n) e k = absurd (never_given (sym e))
-resumed_in verdict.Taken j h (gave a) e k = ap (λ (i : Held). gave i) k
-resumed_in (verdict.Refused q) j h (refused n) e k = let m : refusal_number q ≡ n = cc in ap (λ (i : ℕ). refused i) m
-resumed_in (verdict.Refused q) j h (gave a) e k = absurd (never_given e)
+vacant_empty : (l : Loaded) → gave tt ≡ vacant_for l → empty ≡ l
+vacant_empty empty e = refl
+vacant_empty broken e = absurd (never_given (sym e))
+vacant_empty (holds j) e = absurd (never_given (sym e))
 
-placed_by : (call : Call) (o : Outcome Held) (a : Answer) (ws ws' : List ℕ) → Placed o a ws ws'
-    → Settled (placing call ws o) a ws' (taps_of call) (freqs_of call) (bytes_of call)
-placed_by call (refused n) a ws ws' p = record { told = p.told; slot = p.slot; taps = refl; freqs = refl; bytes = refl }
-placed_by call (gave j) a ws ws' p = record { told = p.told; slot = p.slot; taps = refl; freqs = refl; bytes = refl }
+module _ (call : Call) (o : Outcome Held) (fresh : Fresh call o) (ws : List ℕ) where
+  abbrev Ending : ℕ → List ℕ → Type 0
+  Ending n ws' = Settled (on_slot full call ws) (plainly n) ws' (taps_of call) (freqs_of call) (bytes_of call)
 
-module _ (call : Call) (fresh : Fresh call) (ws : List ℕ) (a : Answer) where
-  pub fresh_broken : broken ≡ packed_of ws → told_by a ≡ plainly 4 → Settled (on_slot full call ws) a ws (taps_of call) (freqs_of call) (bytes_of call)
-  fresh_broken e h = settled_content call ws a broken 4 e (fresh.broken_4 ws) h
+  pub fresh_refused : (n : ℕ) → refused n ≡ vacant_for (packed_of ws) → Ending n ws
+  fresh_refused n e = go (packed_of ws) refl e
+    where
+      go : (l : Loaded) → l ≡ packed_of ws → refused n ≡ vacant_for l → Ending n ws
+      go empty k e = absurd (never_given e)
+      go broken k e = let z : n ≡ 4 = cc in rw z (settled_content call ws broken 4 k (fresh.broken_4 ws))
+      go (holds j) k e =
+          let z : n ≡ cond (is_given (job_for j)) 3 4 = cc in
+          rw z (settled_content call ws (holds j) (cond (is_given (job_for j)) 3 4) k (occupied_by call o j ws (is_given (job_for j)) fresh))
 
-  pub fresh_holds : (j : Held) → holds j ≡ packed_of ws → told_by a ≡ plainly (cond (is_given (job_for j)) 3 4)
-      → Settled (on_slot full call ws) a ws (taps_of call) (freqs_of call) (bytes_of call)
-  fresh_holds j e h = settled_content call ws a (holds j) (cond (is_given (job_for j)) 3 4) e (occupied_by call j ws (is_given (job_for j)) fresh) h
+  placed_by : (p : Outcome Held) (ws' : List ℕ) (n : ℕ) → placing call ws p ≡ gives call n ws' → p ≡ o → gave tt ≡ vacant_for (packed_of ws) → Ending n ws'
+  placed_by p ws' n q e v =
+      rw (on_content full call ws empty (vacant_empty (packed_of ws) v) ∙ fresh.empty_0 ws ∙ ap (placing call ws) (sym e) ∙ q)
+      (record { told = refl; slot = refl; taps = refl; freqs = refl; bytes = refl })
 
--- ---- open
-pub fresh_open : (r : Request) → Fresh (Call.open' r)
-fresh_open r = record { broken_4 = λ ws. refl; holds_3 = λ j ws. refl }
+  pub fresh_stopped : (n : ℕ) → gave tt ≡ vacant_for (packed_of ws) → refused n ≡ o → Ending n ws
+  fresh_stopped n v e = placed_by (refused n) ws n refl e v
 
-pub open_empty : (r : Request) (ws ws' : List ℕ) (a : Answer) (o : Opened) → empty ≡ packed_of ws → Opening r o → Placed (verdict_of o.verdict (held_of o.job)) a ws ws'
-    → Settled (on_slot full (Call.open' r) ws) a ws' [] [] []
-open_empty r ws ws' a o e h p =
-    let k : Placed (open_for r) a ws ws' = rw (resumed_in o.verdict (held_of o.job) (opened_of r) (accept_of (opening r)) h.is h.job) at p in
-    rw (on_content full (Call.open' r) ws empty e) (placed_by (Call.open' r) (open_for r) a ws ws' k)
+  pub fresh_placed : (j : Held) (ws' : List ℕ) → gave tt ≡ vacant_for (packed_of ws) → gave j ≡ o → ws' ≡ slot_words (length ws) j → Ending 0 ws'
+  fresh_placed j ws' v e w = rw w (placed_by (gave j) (slot_words (length ws) j) 0 refl e v)
 
--- ---- restore
-pub fresh_restore : (s : List ℕ) → Fresh (Call.restore s)
-fresh_restore s = record { broken_4 = λ ws. refl; holds_3 = λ j ws. refl }
+pub fresh_open : (r : Request) → Fresh (Call.open' r) (open_for r)
+fresh_open r = record { empty_0 = λ ws. refl; broken_4 = λ ws. refl; holds_3 = λ j ws. refl }
 
-module _ (s ws : List ℕ) (a : Answer) (f : Fields) (v : Verdict) (d : Answers blank (image_for s) v f) where
-  pub restored_taken : (ws' : List ℕ) (o : Opened) → v ≡ verdict.Taken → Resuming f o → Placed (verdict_of o.verdict (held_of o.job)) a ws ws' → Placed (restore_for s) a ws ws'
-  restored_taken ws' o t h p =
-      let g : gave f ≡ image_for s = ap (λ (x : Verdict). verdict_of x f) (sym t) ∙ d.is in
-      let k : Placed (restored f) a ws ws' = rw (resumed_in o.verdict (held_of o.job) (held f (standing_by f)) (accept_of f) h.is h.job) at p in
-      rw (← g) k
+pub fresh_restore : (s : List ℕ) → Fresh (Call.restore s) (restore_for s)
+fresh_restore s = record { empty_0 = λ ws. refl; broken_4 = λ ws. refl; holds_3 = λ j ws. refl }
 
-  pub restored_refused : (q : Refusal) → v ≡ verdict.Refused q → told_by a ≡ plainly (refusal_number q) → Placed (restore_for s) a ws ws
-  restored_refused q t h =
-      let g : refused (refusal_number q) ≡ image_for s = ap (λ (x : Verdict). verdict_of x f) (sym t) ∙ d.is in
-      rw (← g) (record { told = h; slot = refl })
+pub check_stops : (j : Held) (m : ℕ) → refused m ≡ bind (job_for j) (λ _. gave (tt {0})) → m ≡ cond (is_given (job_for j)) 3 4
+check_stops j m = go (is_given (job_for j)) refl
+  where
+    go : (g : Bool) → is_given (job_for j) ≡ g → refused m ≡ bind (job_for j) (λ _. gave (tt {0})) → m ≡ cond g 3 4
+    go false h e = let k : refused m ≡ refused 4 = rw (no_job_4 j h) at e in cc
+    go true h e = absurd (given_never (job_for j) h e)
+      where
+        given_never : {A : Type 0} (o : Outcome A) → is_given o ≡ true → refused m ≡ bind o (λ _. gave (tt {0})) → ⊥
+        given_never (refused n) h e = true≢false (sym h)
+        given_never (gave a) h e = never_given e
 
-pub restore_empty : (s ws ws' : List ℕ) (a : Answer) → empty ≡ packed_of ws → Placed (restore_for s) a ws ws' → Settled (on_slot full (Call.restore s) ws) a ws' [] [] []
-restore_empty s ws ws' a e p = rw (on_content full (Call.restore s) ws empty e) (placed_by (Call.restore s) (restore_for s) a ws ws' p)
+module _ (r : Request) (ws : List ℕ) where
+  pub open_refused : (n : ℕ) → refused n ≡ vacant_for (packed_of ws) → Settled (on_slot full (Call.open' r) ws) (plainly n) ws [] [] []
+  open_refused n e = fresh_refused (Call.open' r) (open_for r) (fresh_open r) ws n e
+
+  pub open_stopped : (n : ℕ) → gave tt ≡ vacant_for (packed_of ws) → refused n ≡ open_for r → Settled (on_slot full (Call.open' r) ws) (plainly n) ws [] [] []
+  open_stopped n v e = fresh_stopped (Call.open' r) (open_for r) (fresh_open r) ws n v e
+
+  pub open_placed : (j : Held) (ws' : List ℕ) → gave tt ≡ vacant_for (packed_of ws) → gave j ≡ open_for r → ws' ≡ slot_words (length ws) j
+      → Settled (on_slot full (Call.open' r) ws) (plainly 0) ws' [] [] []
+  open_placed j ws' v e w = fresh_placed (Call.open' r) (open_for r) (fresh_open r) ws j ws' v e w
+
+module _ (s ws : List ℕ) where
+  pub restore_refused : (n : ℕ) → refused n ≡ vacant_for (packed_of ws) → Settled (on_slot full (Call.restore s) ws) (plainly n) ws [] [] []
+  restore_refused n e = fresh_refused (Call.restore s) (restore_for s) (fresh_restore s) ws n e
+
+  pub restore_unread : (n : ℕ) → gave tt ≡ vacant_for (packed_of ws) → refused n ≡ image_for s → Settled (on_slot full (Call.restore s) ws) (plainly n) ws [] [] []
+  restore_unread n v e = fresh_stopped (Call.restore s) (restore_for s) (fresh_restore s) ws n v (rw (← e))
+
+  pub restore_stopped : (f : Fields) (n : ℕ) → gave tt ≡ vacant_for (packed_of ws) → gave f ≡ image_for s → refused n ≡ restored f → Settled (on_slot full (Call.restore s) ws) (plainly n) ws [] [] []
+  restore_stopped f n v d e = fresh_stopped (Call.restore s) (restore_for s) (fresh_restore s) ws n v (rw (← d) e)
+
+  pub restore_placed : (f : Fields) (j : Held) (ws' : List ℕ) → gave tt ≡ vacant_for (packed_of ws) → gave f ≡ image_for s → gave j ≡ restored f → ws' ≡ slot_words (length ws) j
+      → Settled (on_slot full (Call.restore s) ws) (plainly 0) ws' [] [] []
+  restore_placed f j ws' v d e w = fresh_placed (Call.restore s) (restore_for s) (fresh_restore s) ws j ws' v (rw (← d) e) w
+
+-- ---- a call that asks for a job: step, read and save
+pub record Asking (call : Call) : Type 0 where
+  pub empty_3 : (ws : List ℕ) → on_loaded full call empty ws ≡ gives call 3 ws
+  pub broken_4 : (ws : List ℕ) → on_loaded full call broken ws ≡ gives call 4 ws
+
+pub asked_refused : (call : Call) → Asking call → (ws : List ℕ) (n : ℕ) → refused n ≡ near_for (packed_of ws)
+    → Settled (on_slot full call ws) (plainly n) ws (taps_of call) (freqs_of call) (bytes_of call)
+asked_refused call a ws n e = go (packed_of ws) refl e
+  where
+    go : (l : Loaded) → l ≡ packed_of ws → refused n ≡ near_for l → Settled (on_slot full call ws) (plainly n) ws (taps_of call) (freqs_of call) (bytes_of call)
+    go empty k e = let z : n ≡ 3 = cc in rw z (settled_content call ws empty 3 k (a.empty_3 ws))
+    go broken k e = let z : n ≡ 4 = cc in rw z (settled_content call ws broken 4 k (a.broken_4 ws))
+    go (holds j) k e = absurd (never_given e)
+
+pub asking_step : Asking Call.step
+asking_step = record { empty_3 = λ ws. refl; broken_4 = λ ws. refl }
+
+pub asking_read : (t f : List Float) → Asking (Call.read t f)
+asking_read t f = record { empty_3 = λ ws. refl; broken_4 = λ ws. refl }
+
+pub asking_save : (out : List ℕ) → Asking (Call.save out)
+asking_save out = record { empty_3 = λ ws. refl; broken_4 = λ ws. refl }
+
+pub step_refused : (ws : List ℕ) (n : ℕ) → refused n ≡ near_for (packed_of ws) → Settled (on_slot full Call.step ws) (plainly n) ws [] [] []
+step_refused ws n e = asked_refused Call.step asking_step ws n e
+
+pub read_refused : (t f : List Float) (ws : List ℕ) (n : ℕ) → refused n ≡ near_for (packed_of ws) → Settled (on_slot full (Call.read t f) ws) (plainly n) ws t f []
+read_refused t f ws n e = asked_refused (Call.read t f) (asking_read t f) ws n e
+
+pub save_refused : (out ws : List ℕ) (n : ℕ) → refused n ≡ near_for (packed_of ws) → Settled (on_slot full (Call.save out) ws) (plainly n) ws [] [] out
+save_refused out ws n e = asked_refused (Call.save out) (asking_save out) ws n e
+
+near_holds : (l : Loaded) (j : Held) → gave j ≡ near_for l → holds j ≡ l
+near_holds empty j e = absurd (never_given (sym e))
+near_holds broken j e = absurd (never_given (sym e))
+near_holds (holds i) j e = ap holds (gave_same e)
+
+pub asked_holds : (ws : List ℕ) (j : Held) → gave j ≡ near_for (packed_of ws) → holds j ≡ packed_of ws
+asked_holds ws j e = near_holds (packed_of ws) j e
 
 -- ---- step
 -- where it is no job, the step itself gives 4 and leaves the words
@@ -133,17 +168,18 @@ step_held_lem : (j : Held) (ws : List ℕ) (g : Bool) → is_given (job_for j) �
 step_held_lem j ws true q e = refl
 step_held_lem j ws false q e = step_no_job j ws (no_job_4 j q) e
 
-pub answered_by : (v : Verdict) (o : Outcome (Unit {0})) → verdict_of v (tt {0}) ≡ o → number_of v ≡ answered o
-answered_by verdict.Taken o e = ap answered e
-answered_by (verdict.Refused q) o e = ap answered e
+told_answered : (r : Result Unit Refusal) (o : Outcome (Unit {0})) → verdict_of r (tt {0}) ≡ o → told_by tell_done r ≡ plainly (answered o)
+told_answered (Ok tt) o e = rw (← e)
+told_answered (Err q) o e = rw (← e)
 
-pub step_holds : (ws ws' : List ℕ) (a : Answer) (j : Held) (t : Stepped) → holds j ≡ packed_of ws → next_of t ≡ step_of j 8192
-    → told_by a ≡ plainly (number_of t.verdict) → ws' ≡ slot_words (length ws) (held_of t.job) → Settled (on_slot full Call.step ws) a ws' [] [] []
-step_holds ws ws' a j t e n h w =
-    rw (on_content full Call.step ws (holds j) e ∙ step_held_lem j ws (is_given (job_for j)) refl (packed_words ws j e))
+pub step_holds : (ws ws' : List ℕ) (j : Held) (n : Next) (r : Result Unit Refusal) → gave j ≡ near_for (packed_of ws) → n ≡ step_of j 8192 → n.answer ≡ verdict_of r tt
+    → ws' ≡ slot_words (length ws) n.job → Settled (on_slot full Call.step ws) (told_by tell_done r) ws' [] [] []
+step_holds ws ws' j n r e s a w =
+    let h = asked_holds ws j e in
+    rw (on_content full Call.step ws (holds j) h ∙ step_held_lem j ws (is_given (job_for j)) refl (packed_words ws j h))
     (record {
-      told = h ∙ ap plainly (answered_by t.verdict (step_of j 8192).answer (ap (λ (x : Next). x.answer) n));
-      slot = w ∙ ap (λ (x : Next). slot_words (length ws) x.job) n;
+      told = told_answered r (step_of j 8192).answer (sym a ∙ ap (λ (x : Next). x.answer) s);
+      slot = w ∙ ap (λ (x : Next). slot_words (length ws) x.job) s;
       taps = refl;
       freqs = refl;
       bytes = refl;

@@ -11,10 +11,10 @@ pub mod RunSettled
 pub mod SavedRestored
 pub mod RestoredFirst
 pub mod NothingKept
+pub mod Judging
 pub mod Unique
 pub mod WordLaws
 pub mod SlotLaws
-pub mod Judging
 pub mod CallLaws
 pub mod SaveLaws
 pub mod ReadLaws

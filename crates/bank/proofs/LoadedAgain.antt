@@ -1,5 +1,6 @@
 -- A job's words load as the job: the fields read from them are the job's, but for what no job reads, and the state is the job's. Assumes
 -- nothing.
+use Rattle.bands.specs.Numbered.{symmetry_of, value_of}
 use Prim.Native.Nat.{ℕ, zero, suc, ◌+◌, ◌-◌, ◌≤◌}
 use mathlib.Core.Path.{◌≡◌, refl, ap, ◌∙◌}
 use mathlib.Core.Bool.{true, false, not, ◌&&◌, cond}
@@ -10,7 +11,7 @@ use lib.ListN.{length, replicate}
 use lib.Ieee.{binary64, of_bits}
 use Rattle.numbers.specs.Loops.{tab}
 use Rattle.numbers.specs.Outcome.{gave}
-use Rattle.packing.specs.Packing.{at, symmetry_at, taps_at, degree_at, allowed_at, made_at, count_at, threshold_at, flatness_at, band_at, point_at, symmetry_of, value_of, words_of, fields_of}
+use Rattle.packing.specs.Packing.{at, symmetry_at, taps_at, degree_at, allowed_at, made_at, count_at, threshold_at, flatness_at, band_at, point_at, words_of, fields_of}
 use Rattle.packing.specs.Alike.{Stored}
 use Rattle.packing.proofs.RoundTrip.{unpacked, packed_again}
 use Rattle.packing.proofs.AcceptedAlike.{finished_alike, unpacked_accepted}

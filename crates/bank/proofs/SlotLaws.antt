@@ -8,15 +8,17 @@ use native.Mathlib.Omega.{arith}
 use lib.ListN.{length, get_or, take, drop, set, replicate, length-drop}
 use lib.Seq.{take_all}
 use borrow.Rule.Slice.PartMut.{put_mid}
+use lib.Dec.{eqb}
+use lib.Pointwise.{pointwise}
+use Rattle.std.specs.List.{list_all}
 use Rattle.packing.specs.Packing.{words_of, fields_of}
 use Rattle.fields.specs.declared.held.Fields.{Fields}
 use Rattle.exchange.specs.declared.job.State.{State}
 use Rattle.exchange.specs.Job.{Held, held, held_of, standing_of}
-use Rattle.bank.specs.declared.slot.Kind.TheVariants as kind
-use Rattle.bank.specs.declared.slot.Content.{Content}
 use Rattle.bank.specs.Sizes.{all_zero, same}
 use Rattle.bank.specs.Slot.{state_word, failure_word, slot_words, empty, broken, holds}
-use Rattle.bank.specs.Content.{standing_near, near_in, packed_of, content_by, content_of}
+use Rattle.bank.specs.Content.{standing_near, near_in, packed_of}
+use Rattle.bank.proofs.WordLaws.{zeros, slices_same}
 
 -- ---- a job laid into words that are zero
 pub slot_laid : (j : Held) (s f : ℕ) (p q : List ℕ) → s ≡ state_word j.standing → f ≡ failure_word j.standing → p ≡ words_of j.fields → q ≡ p
@@ -31,29 +33,18 @@ near_is w f s a b =
     let rest : take (length w - 2) (drop 2 w) ≡ drop 2 w = take_all (length w - 2) (drop 2 w) (simp length-drop (omega arith)) in
     (λ i. held ((a ∙ ap fields_of rest) i) (b i))
 
-pub load_empty : (w : List ℕ) (j : Held) → all_zero w ≡ true → content_by kind.Empty j ≡ packed_of w
+pub load_empty : (w : List ℕ) → list_all (λ x. eqb x 0) w ≡ true → empty ≡ packed_of w
 unfolding packed_of
-load_empty w j z = rw z
+load_empty w z = rw (sym (zeros w) ∙ z)
 
-module _ (w : List ℕ) (j : Held) (near : j ≡ near_in w) (long : length w ≡ 256) (some : all_zero w ≡ false) where
-  packed_same : same (slot_words 256 j) w ≡ same (slot_words (length w) (near_in w)) w
-  packed_same = (λ i. same (slot_words (sym long i) (near i)) w)
+module _ (w : List ℕ) (j : Held) (near : j ≡ near_in w) (long : length w ≡ 256) (some : list_all (λ x. eqb x 0) w ≡ false) where
+  packed_same : pointwise eqb (slot_words 256 j) w ≡ same (slot_words (length w) (near_in w)) w
+  packed_same = slices_same (slot_words 256 j) w ∙ (λ i. same (slot_words (sym long i) (near i)) w)
 
-  pub load_holds : same (slot_words 256 j) w ≡ true → content_by kind.Holds j ≡ packed_of w
+  pub load_holds : pointwise eqb (slot_words 256 j) w ≡ true → holds j ≡ packed_of w
   unfolding packed_of
-  load_holds e = rw (some, sym packed_same ∙ e) (ap holds near)
+  load_holds e = rw (sym (zeros w) ∙ some, sym packed_same ∙ e) (ap holds near)
 
-  pub load_broken : same (slot_words 256 j) w ≡ false → content_by kind.Broken j ≡ packed_of w
+  pub load_broken : pointwise eqb (slot_words 256 j) w ≡ false → broken ≡ packed_of w
   unfolding packed_of
-  load_broken e = rw (some, sym packed_same ∙ e)
-
--- ---- a content's kind, as a match finds it
-module _ (c : Content) (w : List ℕ) (e : content_of c ≡ packed_of w) where
-  pub is_empty : c.kind ≡ kind.Empty → empty ≡ packed_of w
-  is_empty k = ap (λ x. content_by x (held_of c.job)) (sym k) ∙ e
-
-  pub is_broken : c.kind ≡ kind.Broken → broken ≡ packed_of w
-  is_broken k = ap (λ x. content_by x (held_of c.job)) (sym k) ∙ e
-
-  pub is_holding : c.kind ≡ kind.Holds → holds (held_of c.job) ≡ packed_of w
-  is_holding k = ap (λ x. content_by x (held_of c.job)) (sym k) ∙ e
+  load_broken e = rw (sym (zeros w) ∙ some, sym packed_same ∙ e)

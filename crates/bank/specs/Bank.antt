@@ -1,8 +1,10 @@
 -- What a call on a bank gives, whatever the bank, the scratch and the lent outputs hold. Order: 1, 2, then what the slot says.
-use Rattle.std.specs.Prelude.{ℕ, zero, suc, ◌*◌, ◌≡◌, Bool, cond, List, ltb, leb, length, Float}
-use Rattle.bank.specs.declared.Answer.{Answer}
+use Rattle.std.specs.Prelude as std
+use Rattle.numbers.specs.declared.Refusal.{Refusal}
+use Rattle.numbers.specs.Refusals.{refusal_number}
+use Rattle.std.specs.Prelude.{ℕ, zero, suc, ⊤, ◌+◌, ◌*◌, ◌≤◌, ◌≡◌, Bool, true, cond, List, ltb, leb, length, Float}
 use Rattle.bank.specs.Sizes.{Sizes, wiped, slot_of, put_slot}
-use Rattle.bank.specs.Calls.{Call, Told, told_by, Result, gives, on_slot, room}
+use Rattle.bank.specs.Calls.{Call, Told, Result, gives, on_slot, room}
 
 -- refusals 1 and 2, else 0, from lengths alone
 unfoldable pub gate_of : Sizes → ℕ → ℕ → ℕ → Bool → ℕ
@@ -49,9 +51,24 @@ bank_call σ call slot bank scratch =
     let g = gate_of σ (length bank) (length scratch) slot (room σ call) in
     ended σ g (passed σ g call (slot_of σ bank slot)) slot bank scratch
 
--- The contract of every call: its answer, and what it leaves of bank, scratch and outputs.
-pub record Ends (o : Done) (r : Answer) (b s : List ℕ) (t f : List Float) (bs : List ℕ) : Type 0 where
-  pub told : told_by r ≡ o.told
+-- the gate's answer as its number; where it lets a call through, the place of the slot's first word, which the bank has
+abbrev pub number_of : {A : Type 0} → std.Result A Refusal → ℕ
+number_of (std.Ok a) = 0
+number_of (std.Err q) = refusal_number q
+
+pub record Passed (words scratch slot : ℕ) (room : Bool) (a : ℕ) : Type 0 where
+  pub at : a ≡ slot * 256
+  pub part : a + 256 ≤ words
+  pub spare : 8192 ≤ scratch
+  pub fits : room ≡ true
+
+abbrev pub At : ℕ → ℕ → ℕ → Bool → std.Result ℕ Refusal → Type 0
+At words scratch slot room (std.Ok a) = Passed words scratch slot room a
+At words scratch slot room (std.Err q) = ⊤
+
+-- The contract of every call: what it tells, and what it leaves of bank, scratch and outputs.
+pub record Ends (o : Done) (r : Told) (b s : List ℕ) (t f : List Float) (bs : List ℕ) : Type 0 where
+  pub told : r ≡ o.told
   pub bank : b ≡ o.bank
   pub scratch : s ≡ o.scratch
   pub taps : t ≡ o.taps

@@ -1,18 +1,18 @@
 -- What each call gives on its slot's words and its lent outputs, whatever they hold.
+use Rattle.std.specs.Prelude as std
+use Rattle.numbers.specs.declared.Refusal.{Refusal}
 use Rattle.std.specs.Prelude.{ℕ, ◌≡◌, Bool, true, ◌&&◌, List, [], leb, length, replicate, Float}
 use Rattle.numbers.specs.Floats.{zero64}
 use Rattle.numbers.specs.Outcome.{Outcome, refused, gave, bind}
 use Rattle.numbers.specs.Refusals.{refusal_number, front}
-use Rattle.numbers.specs.declared.Verdict.{Verdict}
-use Rattle.numbers.specs.declared.Verdict.TheVariants as verdict
 use Rattle.fields.specs.declared.request.Request.{Request}
 use Rattle.fields.specs.declared.held.Fields.{Fields}
 use Rattle.fields.specs.Accept.{accept_of, opening}
 use Rattle.exchange.specs.Job.{Standing, running, done, failed, Held, held, standing_by, opened_of}
 use Rattle.exchange.specs.Step.{step_of}
 use Rattle.exchange.specs.Design.{Design, design_for}
+use Rattle.exchange.specs.declared.design.Report.{Report}
 use Rattle.image.specs.Image.{image_of, image_for}
-use Rattle.bank.specs.declared.Answer.{Answer}
 use Rattle.bank.specs.Sizes.{Sizes}
 use Rattle.bank.specs.Slot.{slot_words, Loaded, empty, broken, holds, load_of}
 
@@ -34,15 +34,23 @@ pub record Told : Type 0 where
   pub iterations : ℕ
   pub count : ℕ
 
-abbrev pub number_of : Verdict → ℕ
-number_of verdict.Taken = 0
-number_of (verdict.Refused q) = refusal_number q
-
-abbrev pub told_by : Answer → Told
-told_by a = record { number = number_of a.verdict; error = a.error; flatness = a.flatness; iterations = a.iterations; count = a.count }
-
 abbrev pub plainly : ℕ → Told
 plainly n = record { number = n; error = zero64; flatness = zero64; iterations = 0; count = 0 }
+
+-- what an answer tells: its number where it is refused, else what f tells of it
+abbrev pub told_by : {A : Type 0} → (A → Told) → std.Result A Refusal → Told
+told_by f (std.Ok a) = f a
+told_by f (std.Err q) = plainly (refusal_number q)
+
+-- what is told where a call did its work
+abbrev pub tell_done : Unit {0} → Told
+tell_done u = plainly 0
+
+abbrev pub tell_design : Report → Told
+tell_design r = record { number = 0; error = r.error; flatness = r.flatness; iterations = r.iterations; count = 0 }
+
+abbrev pub tell_bytes : ℕ → Told
+tell_bytes n = record { number = 0; error = zero64; flatness = zero64; iterations = 0; count = n }
 
 -- ---- what a call on a slot gives: its answer, the slot's words and the lent outputs after it
 pub record Result : Type 0 where
@@ -156,9 +164,9 @@ room σ (save out) = leb σ.bytes (length out)
 room σ (restore s) = true
 room σ clear = true
 
--- the contract of a function on a slot
-pub record Settled (o : Result) (r : Answer) (ws : List ℕ) (t f : List Float) (bs : List ℕ) : Type 0 where
-  pub told : told_by r ≡ o.told
+-- the contract of a function on a slot: what it tells, and what it leaves of the slot's words and of the outputs
+pub record Settled (o : Result) (r : Told) (ws : List ℕ) (t f : List Float) (bs : List ℕ) : Type 0 where
+  pub told : r ≡ o.told
   pub slot : ws ≡ o.slot
   pub taps : t ≡ o.taps
   pub freqs : f ≡ o.freqs

@@ -3,13 +3,10 @@ use Rattle.std.specs.Prelude.{ℕ, ◌≡◌, ◌&&◌, cond, List, eqb, leb, le
 use Rattle.numbers.specs.Outcome.{Outcome, refused, gave}
 use Rattle.packing.specs.Packing.{fields_of}
 use Rattle.exchange.specs.Job.{Standing, running, done, failed, Held, held, held_of, job_for}
-use Rattle.bank.specs.declared.Answer.{Answer}
-use Rattle.bank.specs.declared.slot.Kind.{Kind}
-use Rattle.bank.specs.declared.slot.Kind.TheVariants as kind
 use Rattle.bank.specs.declared.slot.Content.{Content}
+use Rattle.bank.specs.declared.slot.Content.TheVariants as content
 use Rattle.bank.specs.Sizes.{all_zero, same}
 use Rattle.bank.specs.Slot.{slot_words, is_given, Loaded, empty, broken, holds}
-use Rattle.bank.specs.Calls.{told_by, plainly}
 
 -- a number that no step is refused with stands as 1, which no job has
 abbrev pub named : ℕ → ℕ
@@ -25,13 +22,10 @@ near_in ws = held (fields_of (drop 2 ws)) (standing_near (get_or ws 0 0) (get_or
 unfoldable pub packed_of : List ℕ → Loaded
 packed_of ws = cond (all_zero ws) empty (cond (same (slot_words (length ws) (near_in ws)) ws) (holds (near_in ws)) broken)
 
-abbrev pub content_by : Kind → Held → Loaded
-content_by kind.Empty j = empty
-content_by kind.Broken j = broken
-content_by kind.Holds j = holds j
-
 abbrev pub content_of : Content → Loaded
-content_of c = content_by c.kind (held_of c.job)
+content_of content.Empty = empty
+content_of content.Broken = broken
+content_of (content.Holds j) = holds (held_of j)
 
 -- what holds a job that is one, and else nothing
 abbrev pub judged : Loaded → Loaded
@@ -39,16 +33,14 @@ judged empty = empty
 judged broken = broken
 judged (holds j) = cond (is_given (job_for j)) (holds j) broken
 
--- ---- the contracts of what the calls share
-abbrev pub put_number : Outcome Held → ℕ
-put_number (refused n) = n
-put_number (gave j) = 0
+-- ---- what a call asks of a slot: to be empty, else 3 where it holds a job and 4 where it holds none; or to hold what may be a job, else
+-- 3 where it is empty and 4 where it is broken
+abbrev pub vacant_for : Loaded → Outcome (Unit {0})
+vacant_for empty = gave tt
+vacant_for broken = refused 4
+vacant_for (holds j) = refused (cond (is_given (job_for j)) 3 4)
 
-abbrev pub put_words : Outcome Held → List ℕ → List ℕ
-put_words (refused n) ws = ws
-put_words (gave j) ws = slot_words (length ws) j
-
--- a job put into a slot, or refused
-pub record Placed (o : Outcome Held) (r : Answer) (ws ws' : List ℕ) : Type 0 where
-  pub told : told_by r ≡ plainly (put_number o)
-  pub slot : ws' ≡ put_words o ws
+abbrev pub near_for : Loaded → Outcome Held
+near_for empty = refused 3
+near_for broken = refused 4
+near_for (holds j) = gave j

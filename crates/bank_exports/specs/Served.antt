@@ -1,6 +1,7 @@
 -- The bank's calls as C makes them, and what it is given.
+use Rattle.bands.specs.Numbered.{symmetry_of}
 use Rattle.std.specs.Prelude.{ℕ, ◌≡◌, Bool, ◌&&◌, cond, List, ◌∷◌, leb, eqb, length, drop, Float}
-use Rattle.exports.specs.Plans.{plan_of, symmetry_of}
+use Rattle.exports.specs.Plans.{plan_of}
 use Rattle.fields.specs.declared.request.Request.{Request}
 use Rattle.fields.specs.Request.{request_of}
 use Rattle.bank.specs.Sizes.{full}

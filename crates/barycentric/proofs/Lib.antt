@@ -2,7 +2,6 @@ pub mod LaneLaws
 pub mod WeightLanes
 pub mod Settle
 pub mod ResponseLanes
-pub mod Shells
 pub mod Lengths
 pub mod Given
 pub mod Node

@@ -1,8 +1,8 @@
 // Barycentric interpolation: weights, delta, abscissas and the response (barycentric.rs of pm-remez).
 #![tactic(auto)]
 
-ghost use Rattle.std.specs.Prelude.{◌≡◌, ◌<◌, length, get_or};
-ghost use Rattle.std.specs.Float.{nan};
+ghost use Rattle.std.specs.Prelude.{◌≡◌};
+ghost use Rattle.barycentric.specs.Delta.{no_sums, quotient};
 ghost use Rattle.barycentric.specs.Limits.{sized, alike, three_alike, three_finite};
 
 mod delta;
@@ -23,39 +23,43 @@ pub struct Sums {
     pub denom: f64,
 }
 
-fn at(s: &[f64], i: usize) -> f64
-    requires { i < length s.now }
-    ensures { result ≡ get_or s.now i nan }
-{
-    s[i]
+impl Sums {
+    fn none() -> Sums
+        ensures { result ≡ no_sums }
+    {
+        Sums {
+            numer: 0.0,
+            denom: 0.0,
+        }
+    }
+
+    fn quotient(self) -> f64
+        ensures { result ≡ quotient self }
+    {
+        self.numer / self.denom
+    }
 }
 
 fn is_sized(n: usize) -> bool
     ensures { result ≡ sized n }
 {
-    if 1 <= n { n <= POINTS } else { false }
+    1 <= n && n <= POINTS
 }
 
 fn are_alike(n: usize, m: usize) -> bool
     ensures { result ≡ alike n m }
 {
-    if is_sized(n) { m == n } else { false }
+    is_sized(n) && m == n
 }
 
 fn three_alike(n: usize, m: usize, k: usize) -> bool
     ensures { result ≡ three_alike n m k }
 {
-    if are_alike(n, m) { k == n } else { false }
+    are_alike(n, m) && k == n
 }
 
 fn three_finite(a: &[f64], b: &[f64], c: &[f64]) -> bool
     ensures { result ≡ three_finite a.now b.now c.now }
 {
-    if !numbers::all_finite(a) {
-        return false;
-    }
-    if !numbers::all_finite(b) {
-        return false;
-    }
-    numbers::all_finite(c)
+    numbers::all_finite(a) && numbers::all_finite(b) && numbers::all_finite(c)
 }

@@ -6,7 +6,7 @@ ghost use Rattle.barycentric.specs.Limits.{most_points};
 ghost use Rattle.barycentric.specs.Weights.{factor, lane, product, weights_of, weights_for};
 ghost use Rattle.barycentric.specs.Lanes.{Each, Products};
 
-use numbers::{Refusal, Verdict};
+use numbers::Refusal;
 
 // Point j's factor into every product side by side. Its own product is put back as it was.
 fn times_row(x: &[f64], j: usize, p: &mut [f64])
@@ -15,10 +15,8 @@ fn times_row(x: &[f64], j: usize, p: &mut [f64])
 {
     let own = p[j];
     let xj = x[j];
-    let mut k = 0;
-    while k < x.len() {
-        p[k] = p[k] * ((x[k] - xj) * 2.0);
-        k += 1;
+    for k in 0..x.len() {
+        p[k] *= (x[k] - xj) * 2.0;
     }
     p[j] = own;
 }
@@ -28,10 +26,8 @@ fn times_lane(x: &[f64], d: usize, a: usize, p: &mut [f64])
     requires { (0 < d) × (d ≤ length x.now) × (a ≤ length x.now) × (length p.old ≡ length x.now) }
     ensures { Each (λ k. lane x.now k d a) p.old p.new }
 {
-    let mut j = a;
-    while j < x.len() {
+    for j in (a..x.len()).step_by(d) {
         times_row(x, j, p);
-        j += d;
     }
 }
 
@@ -40,20 +36,16 @@ fn products(x: &[f64], p: &mut [f64])
     ensures { Each (λ k s. product x.now k) p.old p.new }
 {
     let d = (x.len() - 2) / 15 + 1;
-    let mut a = 0;
-    while a < d {
+    for a in 0..d {
         times_lane(x, d, a, p);
-        a += 1;
     }
 }
 
 fn reciprocals(p: &mut [f64])
     ensures { Each (λ k s. one64 ⊘ s) p.old p.new }
 {
-    let mut k = 0;
-    while k < p.len() {
-        p[k] = 1.0 / p[k];
-        k += 1;
+    for x in p {
+        *x = 1.0 / *x;
     }
 }
 
@@ -68,25 +60,22 @@ fn weights_into(x: &[f64], p: &mut [f64])
 fn is_sized_for_weights(n: usize, room: usize) -> bool
     ensures { result ≡ (leb 2 n && leb n most_points && leb n room) }
 {
-    if 2 <= n {
-        if n <= super::POINTS { n <= room } else { false }
-    } else {
-        false
-    }
+    2 <= n && n <= super::POINTS && n <= room
 }
 
 // The weights of 2 to 65 points, to the front of `out`.
-pub fn compute_barycentric_weights(x: &[f64], out: &mut [f64]) -> Verdict
+#[tactic(auto, unfolding(crate::specs::Weights::weights_for))]
+pub fn compute_barycentric_weights(x: &[f64], out: &mut [f64]) -> Result<(), Refusal>
     ensures { Filled (weights_for x.now (length out.old)) (length x.now) result out.old out.new }
 {
     if !is_sized_for_weights(x.len(), out.len()) {
-        return Verdict::Refused(Refusal::Lists);
+        return Err(Refusal::Lists);
     }
     if !numbers::all_finite(x) {
-        return Verdict::Refused(Refusal::NotFinite);
+        return Err(Refusal::NotFinite);
     }
     let n = x.len();
-    let mut p = [1.0; 65];
+    let mut p = [1.0; super::POINTS];
     weights_into(x, &mut p[..n]);
     numbers::needed_list(&p[..n], out)
 }

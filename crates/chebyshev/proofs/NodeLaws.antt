@@ -1,4 +1,6 @@
 -- The nodes, from the cosines of their angles to the finished list. Assumes nothing.
+use Rattle.std.specs.Prelude.{Result}
+use Rattle.numbers.specs.declared.Refusal.{Refusal}
 use Prim.Native.Nat.{ℕ, ◌+◌, ◌<◌, ◌≤◌}
 use mathlib.Core.Path.{◌≡◌, sym}
 use mathlib.Core.Bool.{true}
@@ -11,7 +13,6 @@ use lib.Ieee.{Float}
 use Rattle.numbers.specs.Floats.{all_finite}
 use Rattle.numbers.specs.Outcome.{Outcome, refused, gave, gather, needed_list_of}
 use Rattle.numbers.specs.Refusals.{Filled}
-use Rattle.numbers.specs.declared.Verdict.{Verdict}
 use Rattle.numbers.proofs.Given.{gather-length, gather_finite}
 use Rattle.angles.specs.Turns.{cosine_of}
 use Rattle.angles.proofs.Range.{cosine_finite}
@@ -36,7 +37,7 @@ nodes_same n room l h p q e =
 
 -- the cosines at the front of a longer list, written as a finished list, are the nodes
 pub nodes_filled :
-    (n : ℕ) (l rest w w' : List Float) (r : Verdict) → Filled (needed_list_of (take (n + 1) (l ++ rest)) (length w)) (length (take (n + 1) (l ++ rest))) r w w'
+    (n : ℕ) (l rest w w' : List Float) (r : Result Unit Refusal) → Filled (needed_list_of (take (n + 1) (l ++ rest)) (length w)) (length (take (n + 1) (l ++ rest))) r w w'
     → n < length w → 2 ≤ n → n ≤ 16 → gave l ≡ cosines n → Filled (nodes_for n (length w)) (n + 1) r w w'
 nodes_filled n l rest w w' r f h p q e =
     let k = cosines_length n l (sym e) in

@@ -1,40 +1,37 @@
 -- Whatever is given, a matrix that is answered has at most 15 rows of 15 finite entries, and its pass count is at most 64 and is 0
 -- exactly where it has no rows. Assumes nothing.
+use Rattle.std.specs.Prelude.{Result, Ok, Option, Some, None}
+use Rattle.numbers.specs.declared.Refusal.{Refusal}
 use Prim.Native.Nat.{ℕ, zero, suc, ◌+◌, ◌-◌, ◌<◌, ◌≤◌}
 use mathlib.Core.Path.{◌≡◌, refl, sym, ◌∙◌}
 use mathlib.Core.Bool.{Bool, true, false, cond, not, ◌&&◌}
-use mathlib.Core.List.{List, [], map}
+use mathlib.Core.List.{List, []}
 use native.Mathlib.Omega.{arith}
 use borrow.Author.Tests.{leb-true, eqb-true, eqb-false}
 use lib.Dec.{eqb, leb}
-use lib.ListN.{length, get_or, set, replicate, length-set, length-map, get_or-replicate, get_or-map}
+use lib.ListN.{length, get_or, set, replicate, length-set, get_or-replicate}
 use lib.Seq.{get_or-set_same, get_or-set_other}
 use lib.Ieee.{Float, of_bits}
 use Rattle.numbers.specs.Floats.{zero64, all_finite}
 use Rattle.numbers.specs.Loops.{until}
 use Rattle.numbers.specs.Outcome.{Outcome, refused, gave, bind, unless}
-use Rattle.numbers.specs.declared.Count.{Count}
-use Rattle.numbers.specs.declared.Count.TheVariants as count
 use Rattle.numbers.proofs.LoopLaws.{run_keeps, every-at}
 use Rattle.numbers.proofs.Given.{gave_same, never_given, unless_given, bind_given}
 use Rattle.numbers.proofs.Order.{and_2}
 use Rattle.colleague.specs.declared.Colleague.{Colleague}
-use Rattle.colleague.specs.declared.balance.Step.{Step}
-use Rattle.colleague.specs.declared.balance.Step.TheVariants.{Still, Moved, Stopped}
 use Rattle.colleague.specs.Matrix.{Matrix, put, zeros, entries_finite}
 use Rattle.colleague.specs.Built.{set_if, row_of, without_zeros, built_of}
 use Rattle.colleague.specs.Balance.{scale_at, scaled_by, moved_by, scale_of, row_norm, column_norm, step_of, stepped, Pass, pass_by, pass_from, pass_of, Balanced, balanced_from, balanced_of}
-use Rattle.colleague.specs.Answer.{row_record, shown, no_rows, most_coefficients, balanced_for, colleague_for}
+use Rattle.colleague.specs.Answer.{shown, no_rows, most_coefficients, balanced_for, colleague_for}
 use Rattle.colleague.specs.Lent.{Lent}
 use Rattle.colleague.proofs.BuiltLaws.{zeros_within}
-use Rattle.colleague.proofs.LentLaws.{map_back}
 
--- what a matrix that is answered is: its rows as row records, with its size and its passes
+-- what a matrix that is answered is: its rows, with its size and its passes
 pub record Bounded (m : Colleague) : Type 0 where
   pub rows : length m.rows ≡ 15
-  pub columns : (i : ℕ) → i < 15 → length (get_or m.rows i (row_record [])).entries ≡ 15
-  pub finite : (i : ℕ) → i < 15 → all_finite (get_or m.rows i (row_record [])).entries ≡ true
-  pub entries : entries_finite (map (λ r. r.entries) m.rows) ≡ true
+  pub columns : (i : ℕ) → i < 15 → length (get_or m.rows i []) ≡ 15
+  pub finite : (i : ℕ) → i < 15 → all_finite (get_or m.rows i []) ≡ true
+  pub entries : entries_finite m.rows ≡ true
   pub size : m.size ≤ 15
   pub passes : m.passes ≤ 64
   pub none : m.size ≡ 0 → m.passes ≡ 0
@@ -81,18 +78,18 @@ scaled-square f a n j q =
     run_keeps Square (scale_at f j)
     (λ k b p. cond-square (eqb k j) _ _ p (put-square _ k j _ (put-square b j k _ p))) n 0 a q
 
-moved-square : (t : Step) (f : Float) (a : Matrix) (n j : ℕ) → Square a → Square (moved_by t f a n j)
-moved-square Still f a n j q = q
-moved-square Moved f a n j q = scaled-square f a n j q
-moved-square Stopped f a n j q = q
+moved-square : (t : Option Bool) (f : Float) (a : Matrix) (n j : ℕ) → Square a → Square (moved_by t f a n j)
+moved-square (Some false) f a n j q = q
+moved-square (Some true) f a n j q = scaled-square f a n j q
+moved-square None f a n j q = q
 
 stepped-square : (a : Matrix) (n j : ℕ) → Square a → Square (stepped a n j)
 stepped-square a n j q = moved-square (step_of a n j) (scale_of (row_norm a n j) (column_norm a n j)).factor a n j q
 
-by_square : (t : Step) (m : Bool) (b : Matrix) (k : Bool → Pass) → Square b → ((u : Bool) → Square (k u).matrix) → Square (pass_by t m b k).matrix
-by_square Still m b k q p = p m
-by_square Moved m b k q p = p true
-by_square Stopped m b k q p = q
+by_square : (t : Option Bool) (m : Bool) (b : Matrix) (k : Bool → Pass) → Square b → ((u : Bool) → Square (k u).matrix) → Square (pass_by t m b k).matrix
+by_square (Some false) m b k q p = p m
+by_square (Some true) m b k q p = p true
+by_square None m b k q p = q
 
 pass_square : (k n j : ℕ) (a : Matrix) (m : Bool) → Square a → Square (pass_from k n j a m).matrix
 unfolding pass_from
@@ -125,10 +122,10 @@ balanced_ends (suc k) made n a b q e =
 shown_bounded : (a : Matrix) (s p : ℕ) → Square a → entries_finite a ≡ true → s ≤ 15 → p ≤ 64 → (s ≡ 0 → p ≡ 0) → (p ≡ 0 → s ≡ 0) → Bounded (shown a s p)
 shown_bounded a s p q f n m g h =
     record {
-      rows = length-map a row_record ∙ q.long;
-      columns = λ i l. rw (get_or-map row_record a i []) (q.wide i l);
-      finite = λ i l. rw (get_or-map row_record a i []) (every-at (λ i. all_finite (get_or a i [])) 15 i f l);
-      entries = rw (← map_back a) f;
+      rows = q.long;
+      columns = q.wide;
+      finite = λ i l. every-at (λ i. all_finite (get_or a i [])) 15 i f l;
+      entries = f;
       size = n;
       passes = m;
       none = g;
@@ -173,10 +170,10 @@ pub record Giving (c : List Float) (s : ℕ) (a : Matrix) : Type 0 where
   pub matrix : Colleague
   pub given : gave matrix ≡ colleague_for c
   pub sized : s ≡ matrix.size
-  pub rows : a ≡ map (λ r. r.entries) matrix.rows
+  pub rows : a ≡ matrix.rows
   pub bounded : Bounded matrix
 
-pub lent_given : {c : List Float} {r : Count} {a : Matrix} {s : ℕ} → Lent (colleague_for c) r a → r ≡ count.Of s → Giving c s a
+pub lent_given : {c : List Float} {r : Result ℕ Refusal} {a : Matrix} {s : ℕ} → Lent (colleague_for c) r a → r ≡ Ok s → Giving c s a
 lent_given {c} {r} {a} {s} l e = pick (colleague_for c) refl l
   where
     pick : (o : Outcome Colleague) → o ≡ colleague_for c → Lent o r a → Giving c s a

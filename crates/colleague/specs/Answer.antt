@@ -1,12 +1,8 @@
 -- The leaf: from the derivative's coefficients to the balanced matrix and the pass count.
-use Rattle.std.specs.Prelude.{ℕ, ◌-◌, ◌&&◌, cond, List, map, leb, eqb, length, Float}
+use Rattle.std.specs.Prelude.{ℕ, ◌-◌, ◌&&◌, cond, List, leb, eqb, length, Float}
 use Rattle.numbers.specs.Floats.{all_finite}
 use Rattle.numbers.specs.Outcome.{Outcome, gave, bind, unless}
-use Rattle.numbers.specs.declared.Refusal.{Refusal}
-use Rattle.numbers.specs.declared.Verdict.TheVariants as verdict
-use Rattle.colleague.specs.declared.Row.{Row}
 use Rattle.colleague.specs.declared.Colleague.{Colleague}
-use Rattle.colleague.specs.declared.Answer.{Answer}
 use Rattle.colleague.specs.Matrix.{Matrix, zeros, entries_finite}
 use Rattle.colleague.specs.Built.{without_zeros, built_of}
 use Rattle.colleague.specs.Balance.{balanced_of}
@@ -14,19 +10,12 @@ use Rattle.colleague.specs.Balance.{balanced_of}
 abbrev pub most_coefficients : ℕ
 most_coefficients = 16
 
-abbrev pub row_record : List Float → Row
-row_record r = record { entries = r }
-
 abbrev pub shown : Matrix → ℕ → ℕ → Colleague
-shown a s passes = record { rows = map row_record a; size = s; passes = passes }
+shown a s passes = record { rows = a; size = s; passes = passes }
 
 -- no rows
 abbrev pub no_rows : Colleague
 no_rows = shown zeros 0 0
-
--- what is answered where a refusal is given
-abbrev pub refused_by : Refusal → Answer
-refused_by why = record { matrix = no_rows; verdict = verdict.Refused why }
 
 -- s by s of s + 1 coefficients: 9 for an entry that is not finite, before balancing and after
 abbrev pub balanced_for : List Float → ℕ → Outcome Colleague

@@ -1,9 +1,10 @@
-ghost use Rattle.std.specs.Prelude.{◌≡◌, ◌<◌, ◌≤◌, ◌&&◌};
-ghost use Rattle.std.specs.Float.Ieee.{le, lt};
-ghost use Rattle.numbers.specs.Floats.{normal};
-ghost use Rattle.colleague.specs.Balance.{row_norm, column_norm, raised, lowered, scaled_by, step_of, stepped, pass_of, balanced_of, passes_of};
+ghost use Rattle.std.specs.Prelude.{Option, ◌≡◌, ◌<◌, ◌≤◌};
+ghost use Rattle.colleague.specs.Balance.{steps, row_norm, column_norm, raised, lowered, scaled_by, step_of, stepped, pass_of, moved_in, balanced_of, passes_of};
 
 use crate::Colleague;
+
+// Kept: no plainer, in the four functions below that take a matrix and how many of its rows count: it is lent to be changed, and a
+// struct of both would be taken apart in each of them.
 
 // The factor of a row and column, and the column's norm times its square.
 #[derive(Clone, Copy)]
@@ -24,28 +25,6 @@ struct Norms {
     column: f64,
 }
 
-// What is done with a row: nothing, scaled, or balancing ended because the norm is no normal number.
-#[derive(Clone, Copy)]
-pub enum Step {
-    Still,
-    Moved,
-    Stopped,
-}
-
-// A pass over the rows.
-#[derive(Clone, Copy)]
-pub struct Passed {
-    pub moved: bool,
-    pub stopped: bool,
-}
-
-// How many passes were made, or that one more than 64 is needed.
-#[derive(Clone, Copy)]
-pub enum Passes {
-    Made(u64),
-    Over,
-}
-
 // Both norms in one loop, each in its own order.
 fn norms_of(a: &[[f64; 15]; 15], n: usize, j: usize) -> Norms
     requires { (n ≤ 15) × (j < n) }
@@ -53,70 +32,62 @@ fn norms_of(a: &[[f64; 15]; 15], n: usize, j: usize) -> Norms
 {
     let mut row = 0.0;
     let mut column = 0.0;
-    let mut k: usize = 0;
-    while k < n {
+    for k in 0..n {
         if k != j {
-            row = row + numbers::magnitude(a[j][k]);
-            column = column + numbers::magnitude(a[k][j]);
+            row += numbers::magnitude(a[j][k]);
+            column += numbers::magnitude(a[k][j]);
         }
-        k += 1;
     }
-    Norms {
-        row: row,
-        column: column,
-    }
+    Norms { row, column }
 }
 
-fn may_raise(s: Scale, half: f64) -> bool
-    ensures { result ≡ (normal s.column && le s.column half) }
+// The scale that is left where `step` makes no more, or after as many steps as may be made.
+fn scaled<F: Fn(Scale) -> Option<Scale>>(start: Scale, step: F) -> Scale
+    requires { F.IsAlwaysCallable step }
+    ensures { (next : Scale → Option Scale) → ((s : Scale) (r : Option Scale) → F.post step s r → r ≡ next s) → result ≡ steps next 1023 start }
 {
-    if numbers::is_normal(s.column) {
-        s.column <= half
-    } else {
-        false
+    let mut s = start;
+    for _ in 0..Scale::STEPS {
+        match step(s) {
+            Some(next) => {
+                s = next;
+            }
+            None => {
+                return s;
+            }
+        }
     }
+    s
 }
 
 fn raise(s: Scale, half: f64) -> Scale
     ensures { result ≡ raised 1023 half s }
 {
-    let mut t = s;
-    let mut left = Scale::STEPS;
-    while 0 < left {
-        if !may_raise(t, half) {
-            return t;
+    scaled(s, |s| {
+        if numbers::is_normal(s.column) && s.column <= half {
+            Some(Scale {
+                factor: s.factor * 2.0,
+                column: s.column * 4.0,
+            })
+        } else {
+            None
         }
-        t.factor = t.factor * 2.0;
-        t.column = t.column * 4.0;
-        left -= 1;
-    }
-    t
-}
-
-fn may_lower(s: Scale, twice: f64) -> bool
-    ensures { result ≡ (normal s.column && lt twice s.column) }
-{
-    if numbers::is_normal(s.column) {
-        s.column > twice
-    } else {
-        false
-    }
+    })
 }
 
 fn lower(s: Scale, twice: f64) -> Scale
     ensures { result ≡ lowered 1023 twice s }
 {
-    let mut t = s;
-    let mut left = Scale::STEPS;
-    while 0 < left {
-        if !may_lower(t, twice) {
-            return t;
+    scaled(s, |s| {
+        if numbers::is_normal(s.column) && s.column > twice {
+            Some(Scale {
+                factor: s.factor / 2.0,
+                column: s.column / 4.0,
+            })
+        } else {
+            None
         }
-        t.factor = t.factor / 2.0;
-        t.column = t.column / 4.0;
-        left -= 1;
-    }
-    t
+    })
 }
 
 // Row j divided and column j multiplied by f, off the diagonal.
@@ -125,91 +96,63 @@ fn scale_by(a: &mut [[f64; 15]; 15], n: usize, j: usize, f: f64)
     ensures { a.new ≡ scaled_by f a.old n j }
 {
     let f_recip = 1.0 / f;
-    let mut k: usize = 0;
-    while k < n {
+    for k in 0..n {
         if k != j {
-            a[j][k] = a[j][k] * f_recip;
-            a[k][j] = a[k][j] * f;
+            a[j][k] *= f_recip;
+            a[k][j] *= f;
         }
-        k += 1;
     }
 }
 
-fn balance_row(a: &mut [[f64; 15]; 15], n: usize, j: usize) -> Step
+// Whether row j was scaled; `None` where its norm is no normal number, which ends balancing.
+fn balance_row(a: &mut [[f64; 15]; 15], n: usize, j: usize) -> Option<bool>
     requires { (n ≤ 15) × (j < n) }
     ensures { (result ≡ step_of a.old n j) × (a.new ≡ stepped a.old n j) }
 {
-    let norms = norms_of(a, n, j);
-    let row = norms.row;
-    let column = norms.column;
-    if row == 0.0 {
-        return Step::Still;
+    let Norms { row, column } = norms_of(a, n, j);
+    if row == 0.0 || column == 0.0 {
+        return Some(false);
     }
-    if column == 0.0 {
-        return Step::Still;
-    }
-    let norm_sum = row + column;
     let start = Scale {
         factor: 1.0,
-        column: column,
+        column,
     };
     let s = lower(raise(start, row * 0.5), row * 2.0);
-    let scaled = s.column;
     // The Rust's early return.
-    if !numbers::is_normal(scaled) {
-        return Step::Stopped;
+    if !numbers::is_normal(s.column) {
+        return None;
     }
-    let f = s.factor;
-    if row + scaled < 0.95 * norm_sum * f {
-        scale_by(a, n, j, f);
-        return Step::Moved;
+    if row + s.column < 0.95 * (row + column) * s.factor {
+        scale_by(a, n, j, s.factor);
+        return Some(true);
     }
-    Step::Still
+    Some(false)
 }
 
-fn balance_pass(a: &mut [[f64; 15]; 15], n: usize) -> Passed
+// Whether a pass over the rows scaled one; `None` where it was cut short.
+fn balance_pass(a: &mut [[f64; 15]; 15], n: usize) -> Option<bool>
     requires { n ≤ 15 }
-    ensures { pass_of a.old n ≡ record { matrix = a.new; moved = result.moved; stopped = result.stopped } }
+    ensures { (result ≡ moved_in (pass_of a.old n)) × (a.new ≡ (pass_of a.old n).matrix) }
 {
     let mut moved = false;
-    let mut j: usize = 0;
-    while j < n {
-        let s = balance_row(a, n, j);
-        match s {
-            Step::Still => {}
-            Step::Moved => {
-                moved = true;
-            }
-            Step::Stopped => {
-                return Passed {
-                    moved: moved,
-                    stopped: true,
-                };
-            }
+    for j in 0..n {
+        if balance_row(a, n, j)? {
+            moved = true;
         }
-        j += 1;
     }
-    Passed {
-        moved: moved,
-        stopped: false,
-    }
+    Some(moved)
 }
 
-// The first n rows and columns balanced in place.
-pub(crate) fn balance_matrix(a: &mut [[f64; 15]; 15], n: usize) -> Passes
+// The first n rows and columns balanced in place: how many passes it took, or `None` where as many as may be made are too few.
+pub(crate) fn balance_matrix(a: &mut [[f64; 15]; 15], n: usize) -> Option<u64>
     requires { n ≤ 15 }
     ensures { passes_of result a.new ≡ balanced_of a.old n }
 {
-    let mut made: u64 = 0;
-    while made < Colleague::PASSES {
-        let p = balance_pass(a, n);
-        made += 1;
-        if p.stopped {
-            return Passes::Made(made);
-        }
-        if !p.moved {
-            return Passes::Made(made);
+    for made in 0..Colleague::PASSES {
+        // The last is one that scaled no row, or was cut short.
+        if !balance_pass(a, n).unwrap_or(false) {
+            return Some(made + 1);
         }
     }
-    Passes::Over
+    None
 }

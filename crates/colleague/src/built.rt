@@ -7,15 +7,10 @@ ghost use Rattle.colleague.specs.Lent.{over_leading, Blank};
 pub(crate) fn without_zeros(ck: &[f64]) -> usize
     ensures { result ≡ without_zeros ck.now (length ck.now) }
 {
-    let mut n = ck.len();
-    while 0 < n {
-        if ck[n - 1] == 0.0 {
-            n -= 1;
-        } else {
-            return n;
-        }
+    match ck.iter().rposition(|&c| c != 0.0) {
+        Some(last) => last + 1,
+        None => 0,
     }
-    0
 }
 
 // Row j of the matrix, where the lent one is still zero; `scale` is the same for every row.
@@ -39,9 +34,7 @@ pub(crate) fn build_in(ck: &[f64], s: usize, a: &mut [[f64; 15]; 15])
     ensures { a.new ≡ built_of ck.now s }
 {
     let scale = -0.5 / ck[s];
-    let mut j: usize = 0;
-    while j < s {
+    for j in 0..s {
         put_row(ck, s, j, scale, a);
-        j += 1;
     }
 }

@@ -2,27 +2,21 @@
 #![tactic(auto)]
 
 ghost use Rattle.std.specs.Prelude.{◌≡◌};
-ghost use Rattle.numbers.specs.Refusals.{Answers};
-ghost use Rattle.colleague.specs.Answer.{no_rows, refused_by, colleague_for};
+ghost use Rattle.numbers.specs.Refusals.{outcome_of};
+ghost use Rattle.colleague.specs.Matrix.{entries_finite};
+ghost use Rattle.colleague.specs.Answer.{colleague_for};
 ghost use Rattle.colleague.specs.Lent.{Lent};
 
 mod balance;
 mod built;
 mod lent;
-mod matrix;
 
-use numbers::{Count, Refusal, Verdict};
-
-// A row of the matrix, zero beyond its columns.
-#[derive(Clone, Copy)]
-pub struct Row {
-    pub entries: [f64; 15],
-}
+use numbers::Refusal;
 
 // A balanced matrix of `size` rows and columns, zero beyond them, and the passes that balancing made.
 #[derive(Clone, Copy)]
 pub struct Colleague {
-    pub rows: [Row; 15],
+    pub rows: [[f64; 15]; 15],
     pub size: usize,
     pub passes: u64,
 }
@@ -36,43 +30,26 @@ impl Colleague {
     pub const PASSES: u64 = 64;
 }
 
-// A matrix, or one of no rows and why.
-#[derive(Clone, Copy)]
-pub struct Answer {
-    pub matrix: Colleague,
-    pub verdict: Verdict,
-}
-
-fn refused(why: Refusal) -> Answer
-    ensures { result ≡ refused_by why }
+// Every entry of a matrix is finite.
+pub fn are_entries_finite(a: &[[f64; 15]; 15]) -> bool
+    ensures { result ≡ entries_finite a.now }
 {
-    Answer {
-        matrix: matrix::no_rows(),
-        verdict: Verdict::Refused(why),
-    }
+    a.iter().all(|row| numbers::all_finite(row))
 }
 
 // The balanced colleague matrix of the derivative's coefficients, whose eigenvalues are the derivative's roots.
-pub fn colleague_matrix(ck: &[f64]) -> Answer
-    ensures { Answers no_rows (colleague_for ck.now) result.verdict result.matrix }
+pub fn colleague_matrix(ck: &[f64]) -> Result<Colleague, Refusal>
+    ensures { outcome_of result ≡ colleague_for ck.now }
 {
-    let mut a = [[0.0; 15]; 15];
-    let held = lent::matrix_in(ck, &mut a);
-    match held {
-        lent::Held::Of(size, passes) => Answer {
-            matrix: matrix::shown(a, size, passes),
-            verdict: Verdict::Taken,
-        },
-        lent::Held::Refused(why) => refused(why),
-    }
+    let mut rows = [[0.0; 15]; 15];
+    let (size, passes) = lent::matrix_in(ck, &mut rows)?;
+    Ok(Colleague { rows, size, passes })
 }
 
 // The same matrix in a lent one, all zero beyond its rows and columns, and all zero where there is none; answers how many rows it has.
-pub fn colleague_into(ck: &[f64], a: &mut [[f64; 15]; 15]) -> Count
+pub fn colleague_into(ck: &[f64], a: &mut [[f64; 15]; 15]) -> Result<usize, Refusal>
     ensures { Lent (colleague_for ck.now) result a.new }
 {
-    match lent::matrix_in(ck, a) {
-        lent::Held::Of(size, _) => Count::Of(size),
-        lent::Held::Refused(why) => Count::Refused(why),
-    }
+    let (size, _) = lent::matrix_in(ck, a)?;
+    Ok(size)
 }

@@ -1,104 +1,58 @@
 // A request, as oracle/README.md has its lines.
-use bands::{Band, Plan};
-use cases::{past, plan_at, symmetry_of, whole_at, written_at};
-use fields::{Accepted, Request};
+use bands::{Band, Plan, Symmetry};
+use cases::{past, plan_at, whole_at, written_at};
+use fields::Request;
 
-// What is told of a request beside its design.
-#[derive(Clone, Copy)]
-pub(crate) struct Title {
-    pub(crate) taps: usize,
-    pub(crate) points: usize,
-    pub(crate) odd: bool,
-    pub(crate) exchanges: usize,
-    // Whether edge adjustment removes a band at 0 or 0.5 for being without length.
-    pub(crate) removed: bool,
-}
-
-// A request, where its lines end, and whether they could be read.
+// A request, and where its lines end.
 #[derive(Clone, Copy)]
 pub(crate) struct Asked {
-    pub(crate) accepted: Accepted,
-    pub(crate) title: Title,
+    pub(crate) request: Request,
     pub(crate) at: usize,
-    pub(crate) good: bool,
-}
-
-fn all(a: bool, b: bool, c: bool) -> bool {
-    if a { if b { c } else { false } } else { false }
 }
 
 fn is_without_length(b: Band) -> bool {
-    if b.begin == 0.0 {
-        if b.end == 0.0001 {
-            return true;
-        }
-    }
-    if b.end == 0.5 {
-        b.begin == 0.5 - 0.0001
-    } else {
-        false
-    }
+    b.begin == 0.0 && b.end == 0.0001 || b.end == 0.5 && b.begin == 0.5 - 0.0001
 }
 
 fn is_an_end_without_length(plan: Plan) -> bool {
-    let n = plan.count;
-    if n < 1 {
-        return false;
-    }
-    if Plan::BANDS < n {
-        return false;
-    }
-    let first = plan.bands[0];
-    let last = plan.bands[n - 1];
-    if is_without_length(first) {
-        return true;
-    }
-    is_without_length(last)
+    plan.bands.get(..plan.count).is_some_and(|bands| {
+        bands.first().is_some_and(|b| is_without_length(*b))
+            || bands.last().is_some_and(|b| is_without_length(*b))
+    })
 }
 
-// Fewer bands are left than there were, and one of them was left without length.
-fn is_band_removed(request: Request) -> bool {
-    let plan = request.plan;
-    let left = request.bands();
-    let edges = left.edges;
-    if edges.count < plan.count {
-        is_an_end_without_length(plan)
-    } else {
-        false
-    }
+// Whether edge adjustment removes a band at 0 or 0.5 for being without length: fewer bands are left than there were, and one of them
+// was left without length.
+pub(crate) fn is_band_removed(request: Request) -> bool {
+    let left = request.bands().map_or(0, |edges| edges.count);
+    left < request.plan.count && is_an_end_without_length(request.plan)
+}
+
+// The points of a design: one more than its taps have functions.
+pub(crate) fn points_of(request: Request) -> usize {
+    request.functions().wrapping_add(1)
 }
 
 // From the word after `request` on.
-pub(crate) fn asked_at(s: &[u8], at: usize) -> Asked {
-    let taps = whole_at(s, at);
-    let symmetry = whole_at(s, taps.at);
-    let degree = whole_at(s, symmetry.at);
-    let exchanges = whole_at(s, degree.at);
-    let threshold = written_at(s, exchanges.at);
-    let bands = whole_at(s, past(s, exchanges.at));
-    let planned = plan_at(s, bands.at, bands.count);
-    let plan = planned.plan;
-    let accepted = Request::new(
-        taps.count,
-        symmetry_of(symmetry.count),
-        degree.count,
-        exchanges.count,
-        threshold,
-        plan,
-    );
-    let request = accepted.request;
-    let title = Title {
-        taps: taps.count,
-        points: std::num::wrapping_add_usize(request.functions(), 1),
-        odd: symmetry.count == 1,
-        exchanges: exchanges.count,
-        removed: is_band_removed(request),
-    };
-    let good = all(exchanges.good, bands.good, planned.good);
-    Asked {
-        accepted,
-        title,
-        at: planned.at,
-        good: all(good, symmetry.count <= 1, true),
+pub(crate) fn asked_at(s: &[u8], at: usize) -> Option<Asked> {
+    let taps = whole_at(s, at)?;
+    let symmetry = whole_at(s, taps.at)?;
+    let degree = whole_at(s, symmetry.at)?;
+    let exchanges = whole_at(s, degree.at)?;
+    let bands = whole_at(s, past(s, exchanges.at))?;
+    let planned = plan_at(s, bands.at, bands.count)?;
+    if 1 < symmetry.count {
+        return None;
     }
+    Some(Asked {
+        request: Request {
+            taps: taps.count,
+            symmetry: Symmetry::from(symmetry.count as u64),
+            degree: degree.count,
+            exchanges: exchanges.count,
+            threshold: written_at(s, exchanges.at),
+            plan: planned.plan,
+        },
+        at: planned.at,
+    })
 }

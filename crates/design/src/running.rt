@@ -1,104 +1,65 @@
 // A request from its first points to its design.
+use crate::asking::points_of;
 use exchange::{Job, Report, State};
-use fields::{Accepted, Request};
-use numbers::Verdict;
+use fields::Request;
+use numbers::Refusal;
 
-// What came of a request, beside its taps and frequencies.
+// What came of a request: the exchanges made, before the one that failed where one did, and what is told of the design, or why there is
+// none.
 #[derive(Clone, Copy)]
 pub(crate) struct Run {
-    // The number of its refusal, 0 where there is none.
-    pub(crate) refusal: u64,
-    // The exchanges made, before the one that failed where one did.
     pub(crate) made: usize,
-    pub(crate) flatness: f64,
-    pub(crate) error: f64,
-    pub(crate) converged: bool,
+    pub(crate) report: Result<Report, Refusal>,
 }
 
-fn number_of(verdict: Verdict) -> u64 {
-    match verdict {
-        Verdict::Taken => 0,
-        Verdict::Refused(why) => numbers::number(why),
+// A request, what came of it, and its taps and frequencies.
+#[derive(Clone, Copy)]
+pub(crate) struct Design<'a> {
+    pub(crate) request: Request,
+    pub(crate) run: Run,
+    pub(crate) taps: &'a [f64],
+    pub(crate) freqs: &'a [f64],
+}
+
+fn opened(request: Request) -> Result<Job, Refusal> {
+    request.bands()?;
+    Job::open(request)
+}
+
+// The design of a request; or why there is none.
+pub(crate) fn design_of<'a>(
+    request: Request,
+    taps: &'a mut [f64],
+    freqs: &'a mut [f64],
+) -> Design<'a> {
+    let run = match opened(request) {
+        Ok(job) => finished(job, taps, freqs),
+        Err(why) => Run {
+            made: 0,
+            report: Err(why),
+        },
+    };
+    Design {
+        request,
+        run,
+        taps: taps.get(..request.taps).unwrap_or(&[]),
+        freqs: freqs.get(..points_of(request)).unwrap_or(&[]),
     }
-}
-
-fn refused(refusal: u64) -> Run {
-    Run {
-        refusal,
-        made: 0,
-        flatness: 0.0,
-        error: 0.0,
-        converged: false,
-    }
-}
-
-fn is_running(job: Job) -> bool {
-    let state = job.state;
-    match state {
-        State::Running => true,
-        State::Finished => false,
-        State::Failed(_) => false,
-    }
-}
-
-fn step(job: Job) -> Job {
-    let mut scratch = [0u64; 2482];
-    let next = job.step(&mut scratch);
-    next.job
 }
 
 // Exchange after exchange, until the job no longer runs: at most as many as a request may allow.
-fn stepped(first: Job) -> Job {
+fn finished(first: Job, taps: &mut [f64], freqs: &mut [f64]) -> Run {
     let mut job = first;
-    let mut turns: usize = Request::EXCHANGES;
-    while turns > 0 {
-        if !is_running(job) {
-            return job;
+    let mut scratch = [0u64; 2482];
+    for _ in 0..Request::EXCHANGES {
+        if !matches!(job.state, State::Running) {
+            break;
         }
-        let next = step(job);
-        job = next;
-        turns -= 1;
+        // A failed exchange is told by the job's state.
+        let _ = job.step(&mut scratch);
     }
-    job
-}
-
-fn run_of(made: usize, threshold: f64, report: Report) -> Run {
-    let verdict = report.verdict;
     Run {
-        refusal: number_of(verdict),
-        made,
-        flatness: report.flatness,
-        error: report.error,
-        converged: if report.iterations == 0 {
-            false
-        } else {
-            report.flatness <= threshold
-        },
+        made: job.fields.made,
+        report: job.read(taps, freqs),
     }
-}
-
-fn designed(first: Job, threshold: f64, taps: &mut [f64], freqs: &mut [f64]) -> Run {
-    let last = stepped(first);
-    let fields = last.fields;
-    let made = fields.made;
-    let report = last.read(taps, freqs);
-    run_of(made, threshold, report)
-}
-
-// The design of a request, taps and frequencies to the front of the outputs; or why there is none.
-pub(crate) fn design(accepted: Accepted, taps: &mut [f64], freqs: &mut [f64]) -> Run {
-    let verdict = accepted.verdict;
-    let n = number_of(verdict);
-    if n != 0 {
-        return refused(n);
-    }
-    let request = accepted.request;
-    let opened = Job::open(request);
-    let verdict = opened.verdict;
-    let n = number_of(verdict);
-    if n != 0 {
-        return refused(n);
-    }
-    let first = opened.job;
-    designed(first, request.threshold, taps, freqs)
 }

@@ -1,79 +1,67 @@
-// Numbers for a person: 12 decimal places, and the 16 digits of the bits.
-use std::io;
+// Numbers for a person.
+use std::fmt;
 
-pub(crate) fn say(rt: &impl Print, words: &[u8]) -> io::Result<()> {
-    rt.write_all(words)
-}
+// What is below this has one digit before the point, once it is rounded to 12 places.
+const TEN: f64 = 9.9999999999995;
 
-pub(crate) fn say_whole(rt: &impl Print, n: u64) -> io::Result<()> {
-    print!(rt; "{n}")
-}
+const HALF_A_PLACE: f64 = 0.0000000000005;
 
 // A digit, and what is left below 1.
-#[derive(Clone, Copy)]
-struct Peeled {
-    digit: u64,
-    rest: f64,
-}
-
-fn peel(x: f64) -> Peeled {
+fn peel(x: f64) -> (u64, f64) {
     let mut rest = x;
-    let mut digit: u64 = 0;
-    while digit < 9 {
+    for digit in 0..9 {
         if rest < 1.0 {
-            return Peeled { digit, rest };
+            return (digit, rest);
         }
-        rest = rest - 1.0;
-        digit += 1;
+        rest -= 1.0;
     }
-    Peeled { digit, rest }
+    (9, rest)
 }
 
-// A number from 0 to below 10.
-fn say_places(rt: &impl Print, x: f64) -> io::Result<()> {
-    let p = peel(x);
-    say_whole(rt, p.digit)?;
-    say(rt, b".")?;
-    let mut rest = p.rest;
-    let mut places: usize = 12;
-    while places > 0 {
-        let q = peel(rest * 10.0);
-        say_whole(rt, q.digit)?;
-        rest = q.rest;
-        places -= 1;
-    }
-    Ok(())
-}
-
-// A number with its power of ten.
-fn say_large(rt: &impl Print, x: f64) -> io::Result<()> {
+// A power of ten, and what it multiplies.
+fn scaled(x: f64) -> (u64, f64) {
     let mut rest = x;
-    let mut power: u64 = 0;
-    while power < 308 {
-        if rest < 9.9999999999995 {
-            break;
+    for power in 0..308 {
+        if rest < TEN {
+            return (power, rest);
         }
-        rest = rest / 10.0;
-        power += 1;
+        rest /= 10.0;
     }
-    say_places(rt, rest + 0.0000000000005)?;
-    say(rt, b"e")?;
-    say_whole(rt, power)
+    (308, rest)
 }
 
-// Rounded to 12 places; from 10 on with a power of ten. Then its bits.
-pub(crate) fn say_number(rt: &impl Print, x: f64) -> io::Result<()> {
-    if x < 0.0 {
-        say(rt, b"-")?;
-    } else {
-        say(rt, b" ")?;
+// A number from 0 to below 10, cut to 12 decimal places.
+#[derive(Clone, Copy)]
+struct Places(f64);
+
+impl fmt::Display for Places {
+    fn fmt<W: fmt::Write>(&self, f: &mut fmt::Formatter<W>) -> fmt::Result {
+        let (digit, mut rest) = peel(self.0);
+        write!(f, "{digit}.")?;
+        for _ in 0..12 {
+            let (digit, left) = peel(rest * 10.0);
+            write!(f, "{digit}")?;
+            rest = left;
+        }
+        Ok(())
     }
-    let m = numbers::magnitude(x);
-    if m < 9.9999999999995 {
-        say_places(rt, m + 0.0000000000005)?;
-    } else {
-        say_large(rt, m)?;
+}
+
+// Rounded to 12 decimal places; from 10 on with a power of ten. Then the 16 digits of its bits.
+#[derive(Clone, Copy)]
+pub(crate) struct Number(pub(crate) f64);
+
+impl fmt::Display for Number {
+    fn fmt<W: fmt::Write>(&self, f: &mut fmt::Formatter<W>) -> fmt::Result {
+        let x = self.0;
+        let sign = if x < 0.0 { "-" } else { " " };
+        let m = numbers::magnitude(x);
+        if m < TEN {
+            write!(f, "{sign}{}", Places(m + HALF_A_PLACE))?;
+        } else {
+            let (power, rest) = scaled(m);
+            write!(f, "{sign}{}e{power}", Places(rest + HALF_A_PLACE))?;
+        }
+        write!(f, "  {:016x}", numbers::to_word(x))
     }
-    say(rt, b"  ")?;
-    print!(rt; "{:016x}", numbers::to_word(x))
 }

@@ -11,7 +11,7 @@ use Rattle.numbers.specs.Outcome.{Outcome, refused, gave, gather}
 use Rattle.numbers.proofs.OutcomeLaws.{Gathering, gather_start, gather_next, gather_stop, gather_end, bind_next, bind_stop}
 use Rattle.numbers.proofs.Fronts.{padded_more}
 use Rattle.fir_types.specs.declared.edges.Interval.{Interval}
-use Rattle.fir_types.specs.declared.edges.Edges.{Edges}
+use Rattle.fir_types.specs.Edges.{Edges}
 use Rattle.fir_types.specs.Edges.{interval, packed}
 use Rattle.subdivision.specs.First.{band_of}
 use Rattle.exchange.specs.Bands.{band_in_x, bands_in_x}

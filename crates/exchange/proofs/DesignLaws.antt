@@ -1,4 +1,5 @@
 -- From the leaves of a design to its contract. Assumes nothing.
+use Rattle.std.specs.Prelude.{Result, Ok, Err}
 use Prim.Native.Nat.{ℕ, ◌<◌, ◌≤◌}
 use mathlib.Core.Path.{◌≡◌, refl, sym, ap, ◌∙◌}
 use mathlib.Core.Bool.{true}
@@ -9,15 +10,13 @@ use lib.ListN.{length, get_or, take, drop}
 use lib.Seq.{take_at}
 use lib.Ieee.{Float, nan}
 use Rattle.numbers.specs.declared.Refusal.{Refusal}
-use Rattle.numbers.specs.declared.Verdict.{Verdict}
-use Rattle.numbers.specs.declared.Verdict.TheVariants as verdict
 use Rattle.numbers.specs.Floats.{magnitude_of, all_finite}
 use Rattle.numbers.specs.Operations.{◌⊘◌}
 use Rattle.numbers.specs.Outcome.{Outcome, refused, gave, bind, needed_of, needed_list_of}
 use Rattle.numbers.specs.Refusals.{refusal_number, verdict_of, Filled}
 use Rattle.numbers.proofs.FiniteLaws.{given_finite}
 use Rattle.numbers.proofs.Given.{Linked, gave_same, never_given, unless_given, bind_given, gather-length, gather_finite}
-use Rattle.numbers.proofs.OutcomeLaws.{bind_next, bind_stop, taken_is, taken_refused, filled_is, filled_refused}
+use Rattle.numbers.proofs.OutcomeLaws.{bind_next, bind_stop, filled_is, filled_refused}
 use Rattle.fir_types.specs.Kinds.{tau}
 use Rattle.fields.specs.declared.held.Fields.{Fields}
 use Rattle.fields.specs.declared.interpolant.Interpolant.{Interpolant}
@@ -25,28 +24,28 @@ use Rattle.fields.specs.Interpolant.{Interpolation, places, interpolation, padde
 use Rattle.fields.specs.Accept.{accept_of}
 use Rattle.fields.specs.Facts.{AcceptedFacts}
 use Rattle.fields.proofs.Facts.{accepted}
-use Rattle.exchange.specs.declared.design.Report.{Report}
 use Rattle.exchange.specs.Job.{Standing, running, done, failed, Held, agrees, four, job_for, interpolation_in}
-use Rattle.exchange.specs.Design.{Design, taps_in, in_cycles, design_of, design_in, readable_by, design_for, Designed, refused_by, Readable}
+use Rattle.exchange.specs.Design.{Design, taps_in, in_cycles, design_of, design_in, readable_by, design_for, Designed, Readable}
+use Rattle.exchange.proofs.JobLaws.{unanswered}
 
--- ---- a refused design: the numbers are zero, and the outputs as they were
+-- ---- a refused design: the outputs are as they were
 pub designed_none :
-    {o : Outcome Design} {q : Refusal} {r : Report} {t t' f : List Float} → r ≡ refused_by q → t' ≡ t → refused (refusal_number q) ≡ o → Designed o r t t' f f
-designed_none h k e = rw (h, k, ← e) (record { is = refl; numbers = (refl, refl, refl); taps = refl; freqs = refl })
+    {o : Outcome Design} {q : Refusal} {t t' f : List Float} → t' ≡ t → refused (refusal_number q) ≡ o → Designed o (Err q) t t' f f
+designed_none k e = rw (k, ← e) (record { is = refl; taps = refl; freqs = refl })
 
 -- a leaf that was refused left its list as it was
-pub filled_kept : {A : Type 0} {o : Outcome (List A)} {n : ℕ} {v : Verdict} {q : Refusal} {w w' : List A} → Filled o n v w w' → v ≡ verdict.Refused q → w' ≡ w
+pub filled_kept : {A : Type 0} {o : Outcome (List A)} {n : ℕ} {v : Result Unit Refusal} {q : Refusal} {w w' : List A} → Filled o n v w w' → v ≡ Err q → w' ≡ w
 filled_kept {A} {o} {n} {v} {q} {w} {w'} f e = f.out ∙ rw (← filled_refused f e)
 
 -- ---- the frequencies in cycles are finite, so that with room they are written
-taken_of : {A : Type 0} {b : A} (v : Verdict) (a : A) → verdict_of v a ≡ gave b → v ≡ verdict.Taken
-taken_of verdict.Taken a e = refl
-taken_of (verdict.Refused q) a e = absurd (never_given e)
+taken_of : {A : Type 0} {b : A} (v : Result Unit Refusal) (a : A) → verdict_of v a ≡ gave b → v ≡ (Ok tt)
+taken_of (Ok tt) a e = refl
+taken_of (Err q) a e = absurd (never_given e)
 
 cycles_finite : (f c : List Float) → in_cycles f ≡ gave c → all_finite c ≡ true
 cycles_finite f c e = gather_finite (λ i. needed_of (get_or f i nan ⊘ tau)) (λ j y. given_finite (get_or f j nan ⊘ tau) y) (length f) 0 c e
 
-module _ (f c : List Float) {v : Verdict} {w w' : List Float} (given : gave c ≡ in_cycles f) (room : length f ≤ length w) (leaf : Filled (needed_list_of c (length w)) (length c) v w w') where
+module _ (f c : List Float) {v : Result Unit Refusal} {w w' : List Float} (given : gave c ≡ in_cycles f) (room : length f ≤ length w) (leaf : Filled (needed_list_of c (length w)) (length c) v w w') where
   never_refused : needed_list_of c (length w) ≡ gave c
   never_refused =
       let n : length c ≡ length f = gather-length (λ i. needed_of (get_or f i nan ⊘ tau)) (length f) 0 c (sym given) in
@@ -55,46 +54,46 @@ module _ (f c : List Float) {v : Verdict} {w w' : List Float} (given : gave c �
   written : Filled (gave c) (length c) v w w'
   written = rw never_refused at leaf
 
-  pub cycles_taken : v ≡ verdict.Taken
+  pub cycles_taken : v ≡ (Ok tt)
   cycles_taken = taken_of v (take (length c) w') written.is
+
+  pub cycles_never : {q : Refusal} → v ≡ Err q → ⊥
+  cycles_never e = cc (cycles_taken)
 
   pub cycles_written : w' ≡ c ++ drop (length c) w
   cycles_written = written.out
 
 -- ---- the whole design
 module _ (j : Fields) (i : Interpolation) (room : ℕ) where
-  pub cycles_refused : {v : Verdict} {q : Refusal} (c : List Float) → verdict_of v c ≡ in_cycles i.places.freqs → v ≡ verdict.Refused q → refused (refusal_number q) ≡ design_in j room i
+  pub cycles_refused : {n : ℕ} → refused n ≡ in_cycles i.places.freqs → refused n ≡ design_in j room i
   unfolding design_in
-  cycles_refused c e t = bind_stop _ (taken_refused c e t)
+  cycles_refused e = bind_stop _ e
 
-  module _ {u v : Verdict} {t t' : List Float} (c : List Float) (turned : verdict_of u c ≡ in_cycles i.places.freqs) (u-taken : u ≡ verdict.Taken)
+  module _ {v : Result Unit Refusal} {t t' : List Float} (c : List Float) (turned : gave c ≡ in_cycles i.places.freqs)
       (filled : Filled (taps_in j.request i.places.x i.weights i.abscissas room) j.request.taps v t t')
     where
-      pub taps_refused : {q : Refusal} → v ≡ verdict.Refused q → refused (refusal_number q) ≡ design_in j room i
+      pub taps_refused : {q : Refusal} → v ≡ Err q → refused (refusal_number q) ≡ design_in j room i
       unfolding design_in
-      taps_refused e = bind_next _ (taken_is c turned u-taken) (bind_stop _ (filled_refused filled e))
+      taps_refused e = bind_next _ turned (bind_stop _ (filled_refused filled e))
 
       abbrev found : List Float
       found = take j.request.taps t'
 
-      design_given : v ≡ verdict.Taken → gave (design_of j i.delta c found) ≡ design_in j room i
+      design_given : v ≡ (Ok tt) → gave (design_of j i.delta c found) ≡ design_in j room i
       unfolding design_in
-      design_given e = bind_next _ (taken_is c turned u-taken) (bind_next _ (filled_is filled j.request.taps refl e) refl)
+      design_given e = bind_next _ turned (bind_next _ (filled_is filled j.request.taps refl e) refl)
 
-      taps_written : v ≡ verdict.Taken → t' ≡ found ++ drop (length found) t
+      taps_written : v ≡ (Ok tt) → t' ≡ found ++ drop (length found) t
       taps_written e = filled.out ∙ rw (← filled_is filled j.request.taps refl e)
 
       pub designed :
-          {z : Verdict} {w w' : List Float} {error : Float} → v ≡ verdict.Taken → length i.places.freqs ≤ length w → Filled (needed_list_of c (length w)) (length c) z w w'
-          → error ≡ magnitude_of i.delta → Designed (design_in j room i) (record { error = error; flatness = j.flatness; iterations = j.made; verdict = z }) t t' w w'
+          {z : Result Unit Refusal} {w w' : List Float} {error : Float} → v ≡ (Ok tt) → length i.places.freqs ≤ length w → Filled (needed_list_of c (length w)) (length c) z w w'
+          → error ≡ magnitude_of i.delta → Designed (design_in j room i) (Ok (record { error = error; flatness = j.flatness; iterations = j.made })) t t' w w'
       designed {z} {w} {w'} {error} e k leaf m =
-          let g = taken_is c turned u-taken in
-          let y = cycles_taken i.places.freqs c g k leaf in
           rw (← design_given e) (record {
-            is = rw y;
-            numbers = (m, refl, refl);
+            is = rw m;
             taps = taps_written e;
-            freqs = cycles_written i.places.freqs c g k leaf;
+            freqs = cycles_written i.places.freqs c turned k leaf;
           })
 
 -- ---- what an accepted job answers, taken from its arrays, is what it gave
@@ -123,13 +122,6 @@ job_accepted j i e =
     let b = unless_given t 4 (gave a.value) a.rest in
     four_given (accept_of j.fields) a.value a.given ∙ b.rest
 
-pub refused_same : {A : Type 0} {n m : ℕ} → ◌≡◌ {A = Outcome A} (refused n) (refused m) → n ≡ m
-refused_same e = cc
-
-pub unanswered : {n : ℕ} (o : Outcome Interpolation) → refused n ≡ bind o (λ i. gave (answered i)) → refused n ≡ o
-unanswered (refused m) e = ap refused (refused_same e)
-unanswered (gave i) e = absurd (never_given e)
-
 -- ---- reading: outputs that are too short
 module _ (j : Held) (taps freqs : ℕ) where
   pub taps_short : taps < 128 → refused 1 ≡ design_for j taps freqs
@@ -145,15 +137,15 @@ long_enough : (j : Held) (taps freqs : ℕ) → 128 ≤ taps → 65 ≤ freqs �
 unfolding design_for
 long_enough j taps freqs k l = rw (le-leb 128 taps k, le-leb 65 freqs l)
 
-module _ (j : Held) (taps freqs : ℕ) (k : 128 ≤ taps) (l : 65 ≤ freqs) {v : Verdict} (a : Interpolant) (loaded : verdict_of v a ≡ bind (job_for j) (λ i. gave (answered i))) where
-  pub not_loaded : {q : Refusal} → v ≡ verdict.Refused q → refused (refusal_number q) ≡ design_for j taps freqs
-  not_loaded t =
-      bind_stop (design_in j.fields taps) (bind_stop (readable_by j.standing) (unanswered (job_for j) (taken_refused a loaded t)))
+module _ (j : Held) (taps freqs : ℕ) (k : 128 ≤ taps) (l : 65 ≤ freqs) where
+  pub not_loaded : {n : ℕ} → refused n ≡ bind (job_for j) (λ i. gave (answered i)) → refused n ≡ design_for j taps freqs
+  not_loaded e =
+      bind_stop (design_in j.fields taps) (bind_stop (readable_by j.standing) (unanswered (job_for j) e))
       ∙ sym (long_enough j taps freqs k l)
 
-  module _ (taken : v ≡ verdict.Taken) where
+  module _ (a : Interpolant) (loaded : gave a ≡ bind (job_for j) (λ i. gave (answered i))) where
     job : Linked (job_for j) (λ i. gave (answered i)) a
-    job = bind_given (job_for j) (λ i. gave (answered i)) (sym (taken_is a loaded taken))
+    job = bind_given (job_for j) (λ i. gave (answered i)) (sym loaded)
 
     pub still_running : j.standing ≡ running → refused 3 ≡ design_for j taps freqs
     still_running s =

@@ -20,9 +20,9 @@ use Rattle.numbers.proofs.Unit.{Within}
 use Rattle.angles.specs.Turns.{cosine_of}
 use Rattle.angles.proofs.Refused.{cosine_refuses}
 use Rattle.fir_types.specs.declared.edges.Interval.{Interval}
-use Rattle.fir_types.specs.declared.edges.Edges.{Edges}
+use Rattle.fir_types.specs.Edges.{Edges}
 use Rattle.fir_types.specs.Edges.{interval}
-use Rattle.subdivision.specs.declared.cuts.Intervals.{Intervals}
+use Rattle.subdivision.specs.Subdivide.{Intervals}
 use Rattle.subdivision.specs.First.{band_of, edges_finite}
 use Rattle.subdivision.specs.Subdivide.{cut_band, cut_bands, rising, subdivided, subdivide_sized, subdivide_for}
 use Rattle.subdivision.proofs.Bound.{cut_some, most_intervals_lem}

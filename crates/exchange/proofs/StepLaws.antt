@@ -1,39 +1,34 @@
 -- The chain of an exchange: what each return of the code is in it. Assumes nothing.
 use Prim.Native.Nat.{ℕ, ◌-◌, ◌≤◌, ◌<◌}
 use mathlib.Core.Path.{◌≡◌, sym, ap, ◌∙◌}
-use mathlib.Core.Bool.{Bool, ◌&&◌}
-use mathlib.Core.List.{List, [], ◌++◌}
+use mathlib.Core.Bool.{◌&&◌}
+use mathlib.Core.List.{List, ◌++◌}
 use native.Mathlib.Omega.{arith}
 use lib.ListN.{length, get_or, take, drop, replicate}
-use lib.Seq.{length-take-le, get_or-take, take_at}
+use lib.Seq.{take_at}
 use lib.Dec.{leb}
 use borrow.Author.Tests.{le-leb, lt-leb, leb-true}
 use lib.Ieee.{Float, nan}
 use Rattle.numbers.specs.Floats.{zero64}
 use Rattle.numbers.specs.Loops.{tab}
 use Rattle.numbers.specs.Outcome.{Outcome, refused, gave, bind, unless}
-use Rattle.numbers.specs.Refusals.{refusal_number, verdict_of, Answers}
-use Rattle.numbers.specs.declared.Refusal.{Refusal}
-use Rattle.numbers.specs.declared.Verdict.{Verdict}
-use Rattle.numbers.specs.declared.Verdict.TheVariants as verdict
 use Rattle.numbers.proofs.Given.{Linked, gave_same, never_given, unless_given, bind_given}
-use Rattle.numbers.proofs.OutcomeLaws.{bind_next, bind_stop, taken_is, taken_refused, verdict_map, bind-map}
+use Rattle.numbers.proofs.OutcomeLaws.{bind_next, bind_stop}
 use Rattle.numbers.proofs.LoopLaws.{length-tab}
 use Rattle.numbers.proofs.Lanes.{tab-same}
 use Rattle.pruning.specs.declared.candidates.Candidate.{Candidate}
 use Rattle.pruning.specs.Candidates.{none}
-use Rattle.fir_types.specs.declared.edges.Edges.{Edges}
-use Rattle.fir_types.specs.declared.edges.Adjusted.{Adjusted}
-use Rattle.fir_types.specs.Edges.{Edged, list_of}
-use Rattle.subdivision.specs.declared.cuts.Intervals.{Intervals}
-use Rattle.extrema.specs.declared.Kept.{Kept}
-use Rattle.extrema.specs.Errors.{Curve, curve}
+use Rattle.fir_types.specs.Edges.{Edges}
+use Rattle.fir_types.specs.declared.edges.Interval.{Interval}
+use Rattle.subdivision.specs.Subdivide.{Intervals}
+use Rattle.subdivision.specs.Subdivide.{subdivide_for}
+use Rattle.extrema.specs.Extrema.{Kept}
+use Rattle.extrema.specs.Errors.{Curve}
 use Rattle.extrema.specs.Extrema.{extrema_of, extrema_in, extrema_for, intervals_of, packed}
 use Rattle.extrema.proofs.Facts.{extrema_given}
-use Rattle.fields.specs.declared.request.Request.{Request}
 use Rattle.fields.specs.declared.held.Fields.{Fields}
 use Rattle.fields.specs.declared.interpolant.Interpolant.{Interpolant}
-use Rattle.fields.specs.Request.{odd_taps, points_of, request_for}
+use Rattle.fields.specs.Request.{points_of, request_for}
 use Rattle.fields.specs.Interpolant.{radians_of, padded, answered}
 use Rattle.fields.specs.Accept.{accept_of, accept_for}
 use Rattle.fields.specs.Facts.{AcceptedFacts}
@@ -46,41 +41,41 @@ use Rattle.exchange.specs.Flatness.{flatness_of}
 use Rattle.exchange.specs.Exchange.{falling_of, moved, renewed, curve_of, exchanged_in, exchanged_over, exchanged_at, exchanged}
 use Rattle.exchange.specs.Job.{Standing, running, done, failed, Held, job_for, interpolation_in}
 use Rattle.exchange.specs.Step.{ready_by, ready_for, settled, stepped_by, step_of}
-use Rattle.exchange.proofs.DesignLaws.{job_accepted, unanswered, refused_same, answered_back}
+use Rattle.exchange.proofs.JobLaws.{refused_same, unanswered, answered_alone}
+use Rattle.exchange.proofs.DesignLaws.{job_accepted, answered_back}
 use Rattle.exchange.proofs.SpreadLaws.{get_d_before}
 
--- ---- the places of the first n candidates, the last first
-abbrev pub from_last_lem : List Candidate → ℕ → ℕ → Float
-from_last_lem list n k = (get_or list (n - 1 - k) (record { x = nan; error = nan })).x
+-- intervals at the front of an array
+abbrev edges : List Interval → Edges
+edges l = Rattle.fir_types.specs.Edges.packed l
 
-pub falling_is : (list : List Candidate) (n : ℕ) → n ≤ length list
-    → tab (from_last_lem list n) n 0 ++ drop n (replicate 65 zero64) ≡ padded (falling_of (take n list))
-falling_is list n h =
-    let l : length (take n list) ≡ n = length-take-le n list h in
-    let same : tab (from_last_lem list n) n 0 ≡ falling_of (take n list) =
-    rw l (tab-same (from_last_lem list n) (λ i. (get_or (take n list) (n - 1 - i) none).x) n 0
-    (λ k a b. ap (λ c. c.x)
-    (get_d_before list (n - 1 - k) (record { x = nan; error = nan }) none (omega (arith, b, h)) ∙ sym (get_or-take n list (n - 1 - k) none (omega (arith, b))))))
+-- ---- the places of candidates, the last first
+abbrev pub from_last_lem : List Candidate → ℕ → Float
+from_last_lem list k = (get_or list (length list - 1 - k) (record { x = nan; error = nan })).x
+
+pub falling_is : (list : List Candidate) → tab (from_last_lem list) (length list) 0 ++ drop (length list) (replicate 65 zero64) ≡ padded (falling_of list)
+falling_is list =
+    let n = length list in
+    let same : tab (from_last_lem list) n 0 ≡ falling_of list =
+    tab-same (from_last_lem list) (λ i. (get_or list (n - 1 - i) none).x) n 0
+    (λ k a b. ap (λ c. c.x) (get_d_before list (n - 1 - k) (record { x = nan; error = nan }) none (omega (arith, b))))
     in
-    padded_lent 65 zero64 n (tab (from_last_lem list n) n 0) (length-tab (from_last_lem list n) n 0) ∙ ap padded same
+    padded_lent 65 zero64 n (tab (from_last_lem list) n 0) (length-tab (from_last_lem list) n 0) ∙ ap padded same
 
 -- ---- the next job, accepted or not
-pub renewed_is : (j : Fields) (l : List Candidate) (f : Float) (v : Verdict) (a : Interpolant) (next : Fields) → next ≡ moved j l f → gave f ≡ flatness_of l
-    → verdict_of v a ≡ accept_for next → verdict_of v next ≡ renewed j l
-unfolding renewed
-renewed_is j l f v a next e g h =
-    let k : verdict_of v next ≡ bind (accept_of next) (λ _. gave next) =
-    verdict_map (λ z. next) v a ∙ ap (λ o. bind o (λ z. gave next)) h ∙ bind-map (accept_of next) answered next
-    in
-    bind_next (λ f. bind (accept_of (moved j l f)) (λ _. gave (moved j l f))) g (k ∙ ap (λ (n : Fields). bind (accept_of n) (λ _. gave n)) e)
+module _ (j : Fields) (l : List Candidate) where
+  pub unrenewed : {n : ℕ} → refused n ≡ flatness_of l → refused n ≡ renewed j l
+  unfolding renewed
+  unrenewed e = bind_stop _ e
 
-pub unrenewed : (j : Fields) (l : List Candidate) {n : ℕ} → refused n ≡ flatness_of l → refused n ≡ renewed j l
-unfolding renewed
-unrenewed j l e = bind_stop _ e
+  module _ {f : Float} (next : Fields) (e : next ≡ moved j l f) (g : gave f ≡ flatness_of l) where
+    pub renewed_is : {a : Interpolant} → gave a ≡ accept_for next → gave next ≡ renewed j l
+    unfolding renewed
+    renewed_is h = bind_next (λ f. bind (accept_of (moved j l f)) (λ _. gave (moved j l f))) g (answered_alone (accept_of next) next h ∙ ap (λ (n : Fields). bind (accept_of n) (λ _. gave n)) e)
 
--- a refusal beside some fields
-pub stuck_is : {o : Outcome Fields} {q : Refusal} (v : Verdict) (f : Fields) → v ≡ verdict.Refused q → refused (refusal_number q) ≡ o → verdict_of v f ≡ o
-stuck_is v f e h = rw e h
+    pub unaccepted : {n : ℕ} → refused n ≡ accept_for next → refused n ≡ renewed j l
+    unfolding renewed
+    unaccepted h = bind_next (λ f. bind (accept_of (moved j l f)) (λ _. gave (moved j l f))) g (bind_stop _ (rw e at (unanswered (accept_of next) h)))
 
 -- ---- what the search gives: the kept candidates at the front of an array
 extrema_of_lem : (c : Curve) (v : Intervals) (degree n : ℕ) (l : List Candidate) → extrema_in c v degree n ≡ gave l → length l ≡ n
@@ -104,52 +99,53 @@ unfound : {n : ℕ} (o : Outcome (List Candidate)) → refused n ≡ bind o (λ 
 unfound (refused m) e = ap refused (refused_same e)
 unfound (gave l) e = absurd (never_given e)
 
-module _ (j : Fields) (x w y : List Float) (v : Intervals) (odd : Bool) (n words : ℕ) (o : odd ≡ odd_taps j.request) (m : n ≡ points_of j.request) (h : 2482 ≤ words)
-    {r : Verdict} {k : Kept}
-    (a : Answers (packed []) (bind (extrema_for (curve j.request.plan j.request.symmetry odd x w y) v j.request.degree n words) (λ l. gave (packed l))) r k)
-  where
-    found : verdict_of r k ≡ bind (extrema_in (curve_of j.request x w y) v j.request.degree n) (λ l. gave (packed l))
-    unfolding extrema_for
-    found = let z : verdict_of r k ≡ _ = a.is in rw (le-leb 2482 words h, o) at z
+module _ (j : Fields) (x w y : List Float) (v : Intervals) (n words : ℕ) (m : n ≡ points_of j.request) (h : 2482 ≤ words) where
+  within : extrema_in (curve_of j.request x w y) v j.request.degree n ≡ extrema_for (curve_of j.request x w y) v j.request.degree n words
+  unfolding extrema_for
+  within = rw (le-leb 2482 words h)
 
-    pub kept_is : {z : Outcome Fields} → r ≡ verdict.Taken → z ≡ renewed j (take n k.list) → z ≡ exchanged_in j x w y v
-    kept_is t e =
-        let g = front_given (curve_of j.request x w y) v j.request.degree n k (taken_is k found t) in
-        bind_next (renewed j) (rw m at g) (rw m at e)
+  pub kept_is : {k : Kept} {z : Outcome Fields} → gave k ≡ bind (extrema_for (curve_of j.request x w y) v j.request.degree n words) (λ l. gave (packed l)) → z ≡ renewed j (take n k.list) → z ≡ exchanged_in j x w y v
+  kept_is {k} a e =
+      let g = front_given (curve_of j.request x w y) v j.request.degree n k (rw (← within) at a) in
+      bind_next (renewed j) (rw m at g) (rw m at e)
 
-    pub unkept : {q : Refusal} → r ≡ verdict.Refused q → refused (refusal_number q) ≡ exchanged_in j x w y v
-    unkept t = bind_stop (renewed j) (rw m at (unfound (extrema_in (curve_of j.request x w y) v j.request.degree n) (taken_refused k found t)))
+  pub unkept : {q : ℕ} → refused q ≡ bind (extrema_for (curve_of j.request x w y) v j.request.degree n words) (λ l. gave (packed l)) → refused q ≡ exchanged_in j x w y v
+  unkept a = bind_stop (renewed j) (rw m at (unfound (extrema_in (curve_of j.request x w y) v j.request.degree n) (rw (← within) at a)))
 
 -- ---- the bands of an accepted request
-pub unbanded : (j : Fields) (x w y : List Float) {n : ℕ} → refused n ≡ request_for j.request → refused n ≡ exchanged_at j x w y
-unfolding exchanged_at
-unbanded j x w y e = bind_stop _ e
+unpacked : {n : ℕ} (o : Outcome (List Interval)) → refused n ≡ bind o (λ l. gave (edges l)) → refused n ≡ o
+unpacked (refused m) e = ap refused (refused_same e)
+unpacked (gave l) e = absurd (never_given e)
 
-module _ (r : Request) (b : Adjusted) (e : Edged (request_for r) b) where
-  edged : verdict_of b.verdict (list_of (request_for r)) ≡ request_for r
-  edged = e.is
+module _ (j : Fields) (x w y : List Float) where
+  pub unbanded : {n : ℕ} → refused n ≡ bind (request_for j.request) (λ l. gave (edges l)) → refused n ≡ exchanged_at j x w y
+  unfolding exchanged_at
+  unbanded e = bind_stop _ (unpacked (request_for j.request) e)
 
-  pub bands_refused : {q : Refusal} → b.verdict ≡ verdict.Refused q → refused (refusal_number q) ≡ request_for r
-  bands_refused t = taken_refused (list_of (request_for r)) edged t
+  module _ (b s : Edges) (e : gave b ≡ bind (request_for j.request) (λ l. gave (edges l))) (radians : s ≡ radians_of b) where
+    banded : Linked (request_for j.request) (λ l. gave (edges l)) b
+    banded = bind_given (request_for j.request) (λ l. gave (edges l)) (sym e)
 
-  module _ (t : b.verdict ≡ verdict.Taken) where
-    bands_given : gave (list_of (request_for r)) ≡ request_for r
-    bands_given = taken_is (list_of (request_for r)) edged t
+    packed_is : edges banded.value ≡ b
+    packed_is = gave_same banded.rest
 
-    pub bands_few : (s : Edges) → s ≡ radians_of b.edges → s.count ≤ 8
-    bands_few s h = rw (h, e.edges) (request_few r (list_of (request_for r)) (sym bands_given)).most
+    pub bands_few : s.count ≤ 8
+    bands_few = rw (radians, ← packed_is) (request_few j.request banded.value banded.given).most
 
-    module _ (j : Fields) (same : j.request ≡ r) (x w y : List Float) (s turned : Edges) (radians : s ≡ radians_of b.edges) (v : Verdict) (in-x : verdict_of v turned ≡ bands_in_x s) where
-      in_radians_fact : bands_in_x (radians_of (Rattle.fir_types.specs.Edges.packed (list_of (request_for r)))) ≡ bands_in_x s
-      in_radians_fact = ap (λ z. bands_in_x (radians_of z)) (sym e.edges) ∙ ap bands_in_x (sym radians)
+    turned_at : bind (bands_in_x s) (exchanged_over j x w y) ≡ exchanged_at j x w y
+    unfolding exchanged_at
+    turned_at =
+        ap (λ (z : Edges). bind (bands_in_x z) (exchanged_over j x w y)) (radians ∙ ap radians_of (sym packed_is))
+        ∙ ap (λ o. bind o (λ l. bind (bands_in_x (radians_of (edges l))) (exchanged_over j x w y))) (sym banded.given)
 
-      pub over_is : {z : Outcome Fields} → v ≡ verdict.Taken → z ≡ exchanged_over j x w y turned → z ≡ exchanged_at j x w y
-      unfolding exchanged_at
-      over_is k h = rw same (bind_next _ bands_given (bind_next _ (taken_is turned in-x k ∙ sym in_radians_fact) (rw same at h)))
+    pub unturned : {n : ℕ} → refused n ≡ bands_in_x s → refused n ≡ exchanged_at j x w y
+    unturned h = bind_stop (exchanged_over j x w y) h ∙ turned_at
 
-      pub unturned : {q : Refusal} → v ≡ verdict.Refused q → refused (refusal_number q) ≡ exchanged_at j x w y
-      unfolding exchanged_at
-      unturned k = rw same (bind_next _ bands_given (bind_stop _ (taken_refused turned in-x k ∙ sym in_radians_fact)))
+    pub uncut : {n : ℕ} (t : Edges) → gave t ≡ bands_in_x s → refused n ≡ subdivide_for x t → refused n ≡ exchanged_at j x w y
+    uncut t h k = bind_next (exchanged_over j x w y) h (bind_stop (exchanged_in j x w y) k) ∙ turned_at
+
+    pub over_is : {z : Outcome Fields} (t : Edges) {v : Intervals} → gave t ≡ bands_in_x s → gave v ≡ subdivide_for x t → z ≡ exchanged_in j x w y v → z ≡ exchanged_at j x w y
+    over_is t h k e = bind_next (exchanged_over j x w y) h (bind_next (exchanged_in j x w y) k e) ∙ turned_at
 
 -- ---- the step, by what the loaded job is
 module _ (j : Held) (words : ℕ) where
@@ -165,14 +161,14 @@ module _ (j : Held) (words : ℕ) where
   unfolding step_of ready_for
   step_words more h k = rw (le-leb 2482 words h, le-leb 2482 more k)
 
-  module _ (h : 2482 ≤ words) {v : Verdict} (a : Interpolant) (loaded : verdict_of v a ≡ bind (job_for j) (λ i. gave (answered i))) where
-    pub step_unloaded : {q : Refusal} → v ≡ verdict.Refused q → record { job = j; answer = refused (refusal_number q) } ≡ step_of j words
+  module _ (h : 2482 ≤ words) where
+    pub step_unloaded : {n : ℕ} → refused n ≡ bind (job_for j) (λ i. gave (answered i)) → record { job = j; answer = refused n } ≡ step_of j words
     unfolding step_of
-    step_unloaded t = rw (ready h, ← unanswered (job_for j) (taken_refused a loaded t))
+    step_unloaded e = rw (ready h, ← unanswered (job_for j) e)
 
-    module _ (taken : v ≡ verdict.Taken) where
+    module _ (a : Interpolant) (loaded : gave a ≡ bind (job_for j) (λ i. gave (answered i))) where
       job : Linked (job_for j) (λ i. gave (answered i)) a
-      job = bind_given (job_for j) (λ i. gave (answered i)) (sym (taken_is a loaded taken))
+      job = bind_given (job_for j) (λ i. gave (answered i)) (sym loaded)
 
       standing_is : {t : Standing} → j.standing ≡ t → ready_for j words ≡ ready_by t job.value
       standing_is s = ready h ∙ ap (λ o. bind o (ready_by j.standing)) job.given ∙ ap (λ (z : Standing). ready_by z job.value) s

@@ -1,22 +1,23 @@
 -- No second answer fits the contracts of opening, the step and the finished design: a state is settled by where the job stands, as a
 -- refusal is by its number. Assumes nothing.
+use Rattle.std.specs.Prelude.{Result, Ok, Err}
 use Prim.Native.Nat.{ℕ}
 use mathlib.Core.Path.{◌≡◌, refl, sym, ap, ◌∙◌}
 use mathlib.Core.List.{List}
 use native.Mathlib.Omega.{arith}
 use lib.Ieee.{Float}
-use Rattle.numbers.specs.Outcome.{Outcome, refused, gave}
-use Rattle.numbers.proofs.Unique.{refusal_unique, verdict_unique}
+use Rattle.numbers.specs.Outcome.{Outcome}
+use Rattle.numbers.specs.declared.Refusal.{Refusal}
+use Rattle.numbers.proofs.Given.{gave_same, never_given}
+use Rattle.numbers.proofs.Unique.{refusal_unique, verdict_unique, outcome_unique}
 use Rattle.fields.specs.declared.request.Request.{Request}
 use Rattle.exchange.specs.declared.job.State.{State}
 use Rattle.exchange.specs.declared.job.State.TheVariants as state
 use Rattle.exchange.specs.declared.job.Job.{Job}
-use Rattle.exchange.specs.declared.job.Opened.{Opened}
-use Rattle.exchange.specs.declared.step.Stepped.{Stepped}
 use Rattle.exchange.specs.declared.design.Report.{Report}
-use Rattle.exchange.specs.Job.{Held, held_of, standing_of, Opening}
+use Rattle.exchange.specs.Job.{Held, held_of, held_in, standing_of, Opening}
 use Rattle.exchange.specs.Step.{Next, next_of, Step}
-use Rattle.exchange.specs.Design.{Design, numbers_of, Designed}
+use Rattle.exchange.specs.Design.{Design, Designed}
 
 state_unique : (s t : State) → standing_of s ≡ standing_of t → s ≡ t
 state_unique state.Running state.Running e = refl
@@ -34,26 +35,19 @@ job_unique a b e =
     let s = state_unique a.state b.state (ap (λ (h : Held). h.standing) e) in
     (λ i. record { fields = (e i).fields; state = s i })
 
-pub opening_unique : {r : Request} {a b : Opened} → Opening r a → Opening r b → a ≡ b
-opening_unique {r} {a} {b} s t =
-    let j = job_unique a.job b.job (s.job ∙ sym t.job) in
-    let v = verdict_unique a.verdict b.verdict (tt {0}) (tt {0}) (s.is ∙ sym t.is) in
-    (λ i. record { job = j i; verdict = v i })
+held_unique : (a b : Result Job Refusal) → held_in a ≡ held_in b → a ≡ b
+held_unique (Ok a) (Ok b) e = ap Ok (job_unique a b (gave_same e))
+held_unique (Ok a) (Err q) e = absurd (never_given (sym e))
+held_unique (Err p) (Ok b) e = absurd (never_given e)
+held_unique (Err p) (Err q) e = ap Err (refusal_unique p q (cc))
 
-pub step_unique : {j : Held} {a b : Stepped} {w u v : List ℕ} → Step j a w u → Step j b w v → (a ≡ b) × (u ≡ v)
-step_unique {j} {a} {b} {w} {u} {v} s t =
-    let e : next_of a ≡ next_of b = s.is ∙ sym t.is in
-    let job = job_unique a.job b.job (ap (λ (n : Next). n.job) e) in
-    let verdict = verdict_unique a.verdict b.verdict (tt {0}) (tt {0}) (ap (λ (n : Next). n.answer) e) in
-    ((λ i. record { job = job i; verdict = verdict i }), s.words ∙ sym t.words)
+pub opening_unique : {r : Request} {a b : Result Job Refusal} → Opening r a → Opening r b → a ≡ b
+opening_unique {r} {a} {b} s t = held_unique a b (s.is ∙ sym t.is)
 
--- the numbers of a report
-numbers_unique : (o : Outcome Design) (a b : Report) → numbers_of o a → numbers_of o b → (a.error ≡ b.error) × (a.flatness ≡ b.flatness) × (a.iterations ≡ b.iterations)
-numbers_unique (refused n) a b p q = (p.0 ∙ sym q.0, p.1 ∙ sym q.1, p.2 ∙ sym q.2)
-numbers_unique (gave d) a b p q = (p.0 ∙ sym q.0, p.1 ∙ sym q.1, p.2 ∙ sym q.2)
+pub step_unique : {j : Held} {m n : Job} {a b : Result Unit Refusal} {w u v : List ℕ} → Step j m a w u → Step j n b w v → (m ≡ n) × (a ≡ b) × (u ≡ v)
+step_unique {j} {m} {n} {a} {b} {w} {u} {v} s t =
+    let e : next_of m a ≡ next_of n b = s.is ∙ sym t.is in
+    (job_unique m n (ap (λ (n : Next). n.job) e), verdict_unique a b (tt {0}) (tt {0}) (ap (λ (n : Next). n.answer) e), s.words ∙ sym t.words)
 
-pub designed_unique : {o : Outcome Design} {a b : Report} {t t' t'' f f' f'' : List Float} → Designed o a t t' f f' → Designed o b t t'' f f'' → (a ≡ b) × (t' ≡ t'') × (f' ≡ f'')
-designed_unique {o} {a} {b} x y =
-    let n = numbers_unique o a b x.numbers y.numbers in
-    let v = verdict_unique a.verdict b.verdict (tt {0}) (tt {0}) (x.is ∙ sym y.is) in
-    ((λ i. record { error = n.0 i; flatness = n.1 i; iterations = n.2 i; verdict = v i }), x.taps ∙ sym y.taps, x.freqs ∙ sym y.freqs)
+pub designed_unique : {o : Outcome Design} {a b : Result Report Refusal} {t t' t'' f f' f'' : List Float} → Designed o a t t' f f' → Designed o b t t'' f f'' → (a ≡ b) × (t' ≡ t'') × (f' ≡ f'')
+designed_unique {o} {a} {b} x y = (outcome_unique a b (x.is ∙ sym y.is), x.taps ∙ sym y.taps, x.freqs ∙ sym y.freqs)

@@ -3,7 +3,7 @@ use Rattle.std.specs.Prelude.{◌-◌}
 use Rattle.numbers.specs.Outcome.{Outcome, gave, bind, gather}
 use Rattle.angles.specs.Turns.{cosine_of}
 use Rattle.fir_types.specs.declared.edges.Interval.{Interval}
-use Rattle.fir_types.specs.declared.edges.Edges.{Edges}
+use Rattle.fir_types.specs.Edges.{Edges}
 use Rattle.fir_types.specs.Edges.{interval, packed}
 use Rattle.subdivision.specs.First.{band_of}
 

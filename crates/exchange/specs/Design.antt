@@ -1,12 +1,12 @@
 -- The finished design: the response at the angles j times (PI / (functions - 1)), its coefficients, the taps; the extremal frequencies in
 -- cycles per sample; the weighted error |delta|, the flatness and the number of exchanges made. 9 where a needed number is not finite.
+use Rattle.std.specs.Prelude.{Result}
 use Rattle.std.specs.Prelude.{ℕ, ◌≤◌, ◌≡◌, ◌&&◌, List, leb, length, Float}
-use Rattle.numbers.specs.Floats.{zero64, magnitude_of}
+use Rattle.numbers.specs.Floats.{magnitude_of}
 use Rattle.numbers.specs.Operations.{◌⊘◌}
 use Rattle.numbers.specs.Outcome.{Outcome, refused, gave, bind, unless, gather, needed_of}
-use Rattle.numbers.specs.Refusals.{verdict_of, front}
+use Rattle.numbers.specs.Refusals.{outcome_of, front}
 use Rattle.numbers.specs.declared.Refusal.{Refusal}
-use Rattle.numbers.specs.declared.Verdict.TheVariants as verdict
 use Rattle.angles.specs.Turns.{cosine_of}
 use Rattle.barycentric.specs.Response.{responses_for}
 use Rattle.chebyshev.specs.Angles.{sample_angle}
@@ -73,20 +73,15 @@ design_for j taps freqs =
     unless (leb taps_needed taps && leb freqs_needed freqs) 1
     (bind (bind (job_for j) (readable_by j.standing)) (design_in j.fields taps))
 
--- ---- the contract: the numbers, zero where the call is refused; taps and frequencies at the front of the outputs, which are as they
--- were where it is
-abbrev pub numbers_of : Outcome Design → Report → Type 0
-numbers_of (refused n) r = (r.error ≡ zero64) × (r.flatness ≡ zero64) × (r.iterations ≡ 0)
-numbers_of (gave d) r = (r.error ≡ d.error) × (r.flatness ≡ d.flatness) × (r.iterations ≡ d.iterations)
+-- ---- the contract: the numbers, or why there are none; taps and frequencies at the front of the outputs, which are as they were where
+-- the call is refused
+abbrev pub report_of : Design → Report
+report_of d = record { error = d.error; flatness = d.flatness; iterations = d.iterations }
 
-pub record Designed (o : Outcome Design) (r : Report) (t t' f f' : List Float) : Type 0 where
-  pub is : verdict_of r.verdict (tt {0}) ≡ bind o (λ _. gave tt)
-  pub numbers : numbers_of o r
+pub record Designed (o : Outcome Design) (r : Result Report Refusal) (t t' f f' : List Float) : Type 0 where
+  pub is : outcome_of r ≡ bind o (λ d. gave (report_of d))
   pub taps : t' ≡ front (bind o (λ d. gave d.taps)) t
   pub freqs : f' ≡ front (bind o (λ d. gave d.freqs)) f
-
-abbrev pub refused_by : Refusal → Report
-refused_by q = record { error = zero64; flatness = zero64; iterations = 0; verdict = verdict.Refused q }
 
 -- ---- what the private functions ask for
 pub record Samples (m : ℕ) (s h a : List Float) : Type 0 where
@@ -95,12 +90,6 @@ pub record Samples (m : ℕ) (s h a : List Float) : Type 0 where
   pub samples : length s ≡ m
   pub responses : length h ≡ m
   pub coefficients : length a ≡ m
-
-pub record Writable (j : Fields) (f c out : List Float) : Type 0 where
-  pub least : 2 ≤ functions_of j.request
-  pub most : functions_of j.request ≤ 64
-  pub cycles : length c ≡ length f
-  pub room : length f ≤ length out
 
 pub record Readable (j : Fields) (i : Interpolant) (out : List Float) : Type 0 where
   pub least : 2 ≤ functions_of j.request

@@ -1,8 +1,9 @@
 -- A job: its fields, and where it stands. It is one exactly when restoring would accept those fields and the state agrees; else 4.
+use Rattle.std.specs.Prelude.{Result, Ok, Err}
+use Rattle.numbers.specs.declared.Refusal.{Refusal}
 use Rattle.std.specs.Prelude.{ℕ, ◌≡◌, Bool, not, ◌&&◌, cond, leb, take}
 use Rattle.numbers.specs.Outcome.{Outcome, refused, gave, bind, unless}
 use Rattle.numbers.specs.Refusals.{refusal_number, verdict_of}
-use Rattle.numbers.specs.declared.Verdict.{Verdict}
 use Rattle.fields.specs.declared.request.Request.{Request}
 use Rattle.fields.specs.declared.held.Fields.{Fields}
 use Rattle.fields.specs.declared.interpolant.Interpolant.{Interpolant}
@@ -11,7 +12,6 @@ use Rattle.fields.specs.Accept.{accept_of, finished, opening}
 use Rattle.exchange.specs.declared.job.State.{State}
 use Rattle.exchange.specs.declared.job.State.TheVariants as state
 use Rattle.exchange.specs.declared.job.Job.{Job}
-use Rattle.exchange.specs.declared.job.Opened.{Opened}
 
 -- a failed job has the number of its refusal
 pub data Standing : Type 0 where
@@ -61,16 +61,19 @@ interpolation_in i =
 abbrev pub opened_of : Request → Held
 opened_of r = held (opening r) (standing_by (opening r))
 
--- The contract of resuming: the job that fields make, running or finished as they say, and whether they are accepted.
-pub record Resuming (f : Fields) (o : Opened) : Type 0 where
-  pub job : held_of o.job ≡ held f (standing_by f)
-  pub is : verdict_of o.verdict (tt {0}) ≡ bind (accept_of f) (λ _. gave tt)
+-- a job that is answered
+abbrev pub held_in : Result Job Refusal → Outcome Held
+held_in (Ok j) = gave (held_of j)
+held_in (Err q) = refused (refusal_number q)
 
--- The contract of opening: that job, and whether it is accepted: 5 to 9.
-pub record Opening (r : Request) (o : Opened) : Type 0 where
-  pub job : held_of o.job ≡ opened_of r
-  pub is : verdict_of o.verdict (tt {0}) ≡ bind (accept_of (opening r)) (λ _. gave tt)
+-- The contract of resuming: the job that fields make, running or finished as they say, where they are accepted.
+pub record Resuming (f : Fields) (r : Result Job Refusal) : Type 0 where
+  pub is : held_in r ≡ bind (accept_of f) (λ _. gave (held f (standing_by f)))
+
+-- The contract of opening: that job, where it is accepted: 5 to 9.
+pub record Opening (q : Request) (r : Result Job Refusal) : Type 0 where
+  pub is : held_in r ≡ bind (accept_of (opening q)) (λ _. gave (opened_of q))
 
 -- The contract of a check: taken exactly where it is a job, else 4.
-abbrev pub Checked : Held → Verdict → Type 0
+abbrev pub Checked : Held → Result Unit Refusal → Type 0
 Checked j v = verdict_of v (tt {0}) ≡ bind (job_for j) (λ _. gave tt)

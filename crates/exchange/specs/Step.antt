@@ -1,11 +1,12 @@
--- A step: a job goes in and comes back as the next job.
-use Rattle.std.specs.Prelude.{ℕ, ◌≡◌, List, leb, length}
+-- A step: a job becomes the next job.
+use Rattle.std.specs.Prelude.{Result, ℕ, ◌≡◌, List, leb, length}
 use Rattle.numbers.specs.Outcome.{Outcome, refused, gave, bind, unless}
 use Rattle.numbers.specs.Refusals.{verdict_of}
+use Rattle.numbers.specs.declared.Refusal.{Refusal}
 use Rattle.fields.specs.declared.held.Fields.{Fields}
 use Rattle.fields.specs.Interpolant.{Interpolation}
 use Rattle.extrema.specs.Extrema.{words_needed, wiped}
-use Rattle.exchange.specs.declared.step.Stepped.{Stepped}
+use Rattle.exchange.specs.declared.job.Job.{Job}
 use Rattle.exchange.specs.Exchange.{exchanged}
 use Rattle.exchange.specs.Job.{Standing, running, done, failed, Held, held, held_of, standing_by, job_for}
 
@@ -37,10 +38,11 @@ stepped_by j (gave i) = settled j (exchanged j.fields i)
 unfoldable pub step_of : Held → ℕ → Next
 step_of j words = stepped_by j (ready_for j words)
 
-abbrev pub next_of : Stepped → Next
-next_of r = record { job = held_of r.job; answer = verdict_of r.verdict tt }
+-- of the job afterwards and the answer
+abbrev pub next_of : Job → Result Unit Refusal → Next
+next_of j r = record { job = held_of j; answer = verdict_of r tt }
 
 -- The contract: the next job and the answer; the words that are worked in are zero afterwards, and for 1 untouched.
-pub record Step (j : Held) (r : Stepped) (w w' : List ℕ) : Type 0 where
-  pub is : next_of r ≡ step_of j (length w)
+pub record Step (j : Held) (next : Job) (r : Result Unit Refusal) (w w' : List ℕ) : Type 0 where
+  pub is : next_of next r ≡ step_of j (length w)
   pub words : w' ≡ wiped w

@@ -1,65 +1,32 @@
 ghost use Rattle.std.specs.Prelude.{◌≡◌, ◌≤◌};
-ghost use Rattle.numbers.specs.Refusals.{verdict_of};
+ghost use Rattle.numbers.specs.Refusals.{outcome_of};
 ghost use Rattle.exchange.specs.Bands.{band_in_x, bands_in_x};
 
-use fir_types::{Adjusted, Edges, Interval};
-use numbers::{Scalar, Verdict};
+use fir_types::{Edges, Interval};
+use numbers::Refusal;
 
-// A band in x, and whether its edges are angles.
-#[derive(Clone, Copy)]
-struct Turned {
-    band: Interval,
-    verdict: Verdict,
-}
-
-fn band_in_x(b: Interval) -> Turned
-    ensures { verdict_of result.verdict result.band ≡ band_in_x b }
+// A band in x, where its edges are angles.
+fn band_in_x(b: Interval) -> Result<Interval, Refusal>
+    ensures { outcome_of result ≡ band_in_x b }
 {
-    match angles::cosine(b.end) {
-        Scalar::Value(begin) => match angles::cosine(b.begin) {
-            Scalar::Value(end) => Turned {
-                band: Interval { begin, end },
-                verdict: Verdict::Taken,
-            },
-            Scalar::Refused(why) => Turned {
-                band: b,
-                verdict: Verdict::Refused(why),
-            },
-        },
-        Scalar::Refused(why) => Turned {
-            band: b,
-            verdict: Verdict::Refused(why),
-        },
-    }
+    let begin = angles::cosine(b.end)?;
+    let end = angles::cosine(b.begin)?;
+    Ok(Interval { begin, end })
 }
 
 // The bands in x, in rising order.
-pub(crate) fn bands_in_x(bands: Edges) -> Adjusted
+#[tactic(auto, using(crate::proofs::BandLaws::turn_next, crate::proofs::BandLaws::turn_stop, crate::proofs::BandLaws::turn_end))]
+pub(crate) fn bands_in_x(bands: Edges) -> Result<Edges, Refusal>
     requires { bands.count ≤ 8 }
-    ensures { verdict_of result.verdict result.edges ≡ bands_in_x bands }
+    ensures { outcome_of result ≡ bands_in_x bands }
 {
     let n = bands.count;
     let mut list = [Interval {
         begin: 0.0,
         end: 0.0,
     }; 8];
-    let mut i: usize = 0;
-    while i < n {
-        let b = bands.list[n - 1 - i];
-        let t = band_in_x(b);
-        let band = t.band;
-        let verdict = t.verdict;
-        if let Verdict::Refused(why) = verdict {
-            return Adjusted {
-                edges: bands,
-                verdict: Verdict::Refused(why),
-            };
-        }
-        list[i] = band;
-        i += 1;
+    for i in 0..n {
+        list[i] = band_in_x(bands.list[n - 1 - i])?;
     }
-    Adjusted {
-        edges: Edges { list, count: n },
-        verdict: Verdict::Taken,
-    }
+    Ok(Edges { list, count: n })
 }

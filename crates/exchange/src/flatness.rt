@@ -1,9 +1,9 @@
-ghost use Rattle.std.specs.Prelude.{◌≡◌, cond, ◌≤◌, take};
+ghost use Rattle.std.specs.Prelude.{◌≡◌, cond, ◌≤◌, length};
 ghost use Rattle.std.specs.Float.Ieee.{lt};
-ghost use Rattle.numbers.specs.Refusals.{scalar_of};
+ghost use Rattle.numbers.specs.Refusals.{outcome_of};
 ghost use Rattle.exchange.specs.Flatness.{spread_of, flatness_of};
 
-use numbers::{Refusal, Scalar};
+use numbers::Refusal;
 use pruning::Candidate;
 
 // The largest and the smallest magnitude.
@@ -19,32 +19,29 @@ fn larger(a: f64, b: f64) -> f64
     if a < b { b } else { a }
 }
 
-fn spread_of(list: [Candidate; 65], n: usize) -> Spread
-    requires { (1 ≤ n) × (n ≤ 65) }
-    ensures { result ≡ spread_of (take n list) }
+fn spread_of(list: &[Candidate]) -> Spread
+    requires { 1 ≤ length list.now }
+    ensures { result ≡ spread_of list.now }
 {
-    let first = list[0];
-    let mut most = numbers::magnitude(first.error);
+    let mut most = numbers::magnitude(list[0].error);
     let mut least = most;
-    let mut i: usize = 1;
-    while i < n {
-        let c = list[i];
-        let a = numbers::magnitude(c.error);
+    for i in 1..list.len() {
+        let a = numbers::magnitude(list[i].error);
         most = larger(most, a);
         least = numbers::smaller(least, a);
-        i += 1;
     }
     Spread { most, least }
 }
 
-// How flat the errors of the first n candidates are.
-pub(crate) fn flatness_of(list: [Candidate; 65], n: usize) -> Scalar
-    requires { (1 ≤ n) × (n ≤ 65) }
-    ensures { scalar_of result ≡ flatness_of (take n list) }
+// How flat the errors of the candidates are.
+#[tactic(auto, unfolding(crate::specs::Flatness::flatness_of))]
+pub(crate) fn flatness_of(list: &[Candidate]) -> Result<f64, Refusal>
+    requires { 1 ≤ length list.now }
+    ensures { outcome_of result ≡ flatness_of list.now }
 {
-    let s = spread_of(list, n);
+    let s = spread_of(list);
     if s.most == 0.0 {
-        return Scalar::Refused(Refusal::NotFinite);
+        return Err(Refusal::NotFinite);
     }
     numbers::needed((s.most - s.least) / s.most)
 }

@@ -1,4 +1,4 @@
-// The exchange (the loop of lib.rs of pm-remez) as a job that goes into a step and comes back as the next job, and the finished design.
+// The exchange (the loop of lib.rs of pm-remez) as a job that a step makes the next job, and the finished design.
 #![tactic(auto)]
 
 mod bands_in_x;
@@ -8,5 +8,4 @@ mod job;
 mod step;
 
 pub use design::Report;
-pub use job::{Job, Opened, State};
-pub use step::Stepped;
+pub use job::{Job, State};

@@ -1,241 +1,108 @@
 ghost use Rattle.std.specs.Prelude.{◌≡◌, ◌≤◌, length, take};
-ghost use Rattle.numbers.specs.Outcome.{bind, gave, refused};
-ghost use Rattle.numbers.specs.Refusals.{verdict_of, refusal_number};
+ghost use Rattle.numbers.specs.Refusals.{outcome_of};
 ghost use Rattle.fields.specs.Interpolant.{padded};
 ghost use Rattle.fields.specs.Request.{points_of};
-ghost use Rattle.extrema.specs.Extrema.{packed};
-ghost use Rattle.exchange.specs.Exchange.{falling_of, moved, renewed, exchanged_in, exchanged_over, exchanged_at};
+ghost use Rattle.exchange.specs.Exchange.{falling_of, moved, renewed, exchanged_in, exchanged_at};
 ghost use Rattle.exchange.specs.Job.{held_of};
 ghost use Rattle.exchange.specs.Step.{next_of, step_of, settled};
 
 use crate::job::{Job, State};
-use crate::{bands_in_x, flatness, job};
-use extrema::Kept;
+use crate::{bands_in_x, flatness};
+use extrema::Curve;
 use fields::{Fields, Interpolant};
-use fir_types::Edges;
-use numbers::{Refusal, Scalar, Verdict};
+use numbers::Refusal;
 use pruning::Candidate;
 use subdivision::Intervals;
 
-// The next job, and whether the call was refused or its exchange failed.
-#[derive(Clone, Copy)]
-pub struct Stepped {
-    pub job: Job,
-    pub verdict: Verdict,
-}
-
-// The fields that an exchange leaves, or why there are none.
-#[derive(Clone, Copy)]
-struct Moved {
-    fields: Fields,
-    verdict: Verdict,
-}
-
-fn stuck(fields: Fields, why: Refusal) -> Moved
-    ensures { (result.fields ≡ fields) × (result.verdict ≡ Verdict.Refused why) }
-{
-    Moved {
-        fields,
-        verdict: Verdict::Refused(why),
-    }
-}
-
-// The places of the first n candidates, the last first.
-fn falling(list: [Candidate; 65], n: usize) -> [f64; 65]
-    requires { n ≤ 65 }
-    ensures { result ≡ padded (falling_of (take n list)) }
+// The places of the candidates, the last first.
+fn falling(list: &[Candidate]) -> [f64; 65]
+    requires { length list.now ≤ 65 }
+    ensures { result ≡ padded (falling_of list.now) }
 {
     let mut points = [0.0; 65];
-    let mut i: usize = 0;
-    while i < n {
-        let c = list[n - 1 - i];
-        points[i] = c.x;
-        i += 1;
+    for i in 0..list.len() {
+        points[i] = list[list.len() - 1 - i].x;
     }
     points
 }
 
-fn moved_by(fields: Fields, list: [Candidate; 65], n: usize, flatness: f64) -> Fields
-    requires { (n ≤ 65) × (fields.made ≤ 100) }
-    ensures { result ≡ moved fields (take n list) flatness }
+// From the kept candidates on.
+#[tactic(auto, using(crate::proofs::StepLaws::unrenewed, crate::proofs::StepLaws::renewed_is, crate::proofs::StepLaws::unaccepted))]
+fn renew(fields: Fields, list: &[Candidate]) -> Result<Fields, Refusal>
+    requires { (1 ≤ length list.now) × (length list.now ≤ 65) × (fields.made ≤ 100) }
+    ensures { outcome_of result ≡ renewed fields list.now }
 {
-    let request = fields.request;
-    let points = falling(list, n);
-    Fields {
-        request,
+    let flatness = flatness::flatness_of(list)?;
+    let next = Fields {
+        request: fields.request,
         made: fields.made + 1,
         flatness,
-        points,
-    }
-}
-
-// From the kept candidates on.
-fn renew(fields: Fields, list: [Candidate; 65], n: usize) -> Moved
-    requires { (1 ≤ n) × (n ≤ 65) × (fields.made ≤ 100) }
-    ensures { verdict_of result.verdict result.fields ≡ renewed fields (take n list) }
-{
-    match flatness::flatness_of(list, n) {
-        Scalar::Value(f) => {
-            let next = moved_by(fields, list, n, f);
-            let a = next.accept();
-            let verdict = a.verdict;
-            Moved {
-                fields: next,
-                verdict,
-            }
-        }
-        Scalar::Refused(why) => stuck(fields, why),
-    }
+        points: falling(list),
+    };
+    next.accept()?;
+    Ok(next)
 }
 
 // From the subintervals on.
 fn exchange_in(
     fields: Fields,
-    x: &[f64],
-    wk: &[f64],
-    yk: &[f64],
+    i: Interpolant,
     intervals: Intervals,
     words: &mut [u64],
-) -> Moved
-    requires { (2482 ≤ length words.old) × (points_of fields.request ≤ 65) × (fields.made ≤ 100) }
-    ensures { verdict_of result.verdict result.fields ≡ exchanged_in fields x.now wk.now yk.now intervals }
+) -> Result<Fields, Refusal>
+    requires { (2482 ≤ length words.old) × (i.count ≤ 65) × (points_of fields.request ≤ 65) × (fields.made ≤ 100) }
+    ensures { outcome_of result ≡ exchanged_in fields (take i.count i.points) (take i.count i.weights) (take i.count i.abscissas) intervals }
 {
-    let request = fields.request;
-    let plan = request.plan;
-    let symmetry = request.symmetry;
-    let odd = fir_types::is_odd(request.taps);
-    let n = request.functions() + 1;
-    let e = extrema::find_extrema(
-        plan,
-        symmetry,
-        odd,
-        x,
-        wk,
-        yk,
-        intervals,
-        request.degree,
-        n,
-        words,
-    );
-    let kept = e.kept;
-    let verdict = e.verdict;
-    match verdict {
-        Verdict::Taken => {
-            let list = kept.list;
-            renew(fields, list, n)
-        }
-        Verdict::Refused(why) => stuck(fields, why),
-    }
-}
-
-// From the bands on.
-fn exchange_over(
-    fields: Fields,
-    x: &[f64],
-    wk: &[f64],
-    yk: &[f64],
-    bands: Edges,
-    words: &mut [u64],
-) -> Moved
-    requires { (2482 ≤ length words.old) × (points_of fields.request ≤ 65) × (fields.made ≤ 100) }
-    ensures { verdict_of result.verdict result.fields ≡ exchanged_over fields x.now wk.now yk.now bands }
-{
-    let d = subdivision::subdivide(x, bands);
-    let intervals = d.intervals;
-    let verdict = d.verdict;
-    match verdict {
-        Verdict::Taken => exchange_in(fields, x, wk, yk, intervals, words),
-        Verdict::Refused(why) => stuck(fields, why),
-    }
+    let curve = Curve {
+        target: fields.request.target(),
+        x: &i.points[..i.count],
+        wk: &i.weights[..i.count],
+        yk: &i.abscissas[..i.count],
+    };
+    let n = fields.request.functions() + 1;
+    let kept = extrema::find_extrema(curve, intervals, fields.request.degree, n, words)?;
+    renew(fields, &kept.list[..n])
 }
 
 // One exchange, from points with their weights and abscissas.
-fn exchange(fields: Fields, x: &[f64], wk: &[f64], yk: &[f64], words: &mut [u64]) -> Moved
-    requires { (2482 ≤ length words.old) × (points_of fields.request ≤ 65) × (fields.made ≤ 100) }
-    ensures { verdict_of result.verdict result.fields ≡ exchanged_at fields x.now wk.now yk.now }
+#[tactic(auto, using(crate::proofs::StepLaws::unbanded, crate::proofs::StepLaws::unturned, crate::proofs::StepLaws::uncut, crate::proofs::StepLaws::over_is))]
+fn exchange(fields: Fields, i: Interpolant, words: &mut [u64]) -> Result<Fields, Refusal>
+    requires { (2482 ≤ length words.old) × (i.count ≤ 65) × (points_of fields.request ≤ 65) × (fields.made ≤ 100) }
+    ensures { outcome_of result ≡ exchanged_at fields (take i.count i.points) (take i.count i.weights) (take i.count i.abscissas) }
 {
-    let request = fields.request;
-    let b = request.bands();
-    let edges = b.edges;
-    let verdict = b.verdict;
-    if let Verdict::Refused(why) = verdict {
-        return stuck(fields, why);
-    }
-    let t = bands_in_x::bands_in_x(fields::radians_of(edges));
-    let turned = t.edges;
-    let verdict = t.verdict;
-    match verdict {
-        Verdict::Taken => exchange_over(fields, x, wk, yk, turned, words),
-        Verdict::Refused(why) => stuck(fields, why),
-    }
+    let edges = fields.request.bands()?;
+    let bands = bands_in_x::bands_in_x(fields::radians_of(edges))?;
+    let intervals = subdivision::subdivide(&i.points[..i.count], bands)?;
+    exchange_in(fields, i, intervals, words)
 }
 
-// A call that is refused leaves the job as it was.
-pub(crate) fn refused(job: Job, why: Refusal) -> Stepped
-    ensures { next_of result ≡ record { job = held_of job; answer = refused (refusal_number why) } }
+// An exchange of a running job; a failed one keeps what it was before.
+fn run(job: &mut Job, i: Interpolant, words: &mut [u64]) -> Result<(), Refusal>
+    requires { (2482 ≤ length words.old) × (i.count ≤ 65) × (points_of job.old.fields.request ≤ 65) × (job.old.fields.made ≤ 100) }
+    ensures { next_of job.new result ≡ settled (held_of job.old) (exchanged_at job.old.fields (take i.count i.points) (take i.count i.weights) (take i.count i.abscissas)) }
 {
-    Stepped {
-        job,
-        verdict: Verdict::Refused(why),
-    }
-}
-
-// The job after its exchange; a failed one keeps what it was before.
-fn settle(before: Job, m: Moved) -> Stepped
-    ensures { next_of result ≡ settled (held_of before) (verdict_of m.verdict m.fields) }
-{
-    let verdict = m.verdict;
-    match verdict {
-        Verdict::Taken => {
-            let fields = m.fields;
-            let state = job::state_of(fields);
-            Stepped {
-                job: Job { fields, state },
-                verdict: Verdict::Taken,
-            }
+    match exchange(job.fields, i, words) {
+        Ok(next) => {
+            *job = Job::of(next);
+            Ok(())
         }
-        Verdict::Refused(why) => {
-            let fields = before.fields;
-            Stepped {
-                job: Job {
-                    fields,
-                    state: State::Failed(why),
-                },
-                verdict: Verdict::Refused(why),
-            }
+        Err(why) => {
+            job.state = State::Failed(why);
+            Err(why)
         }
     }
 }
 
-// An exchange of a running job.
-fn run(job: Job, i: Interpolant, words: &mut [u64]) -> Stepped
-    requires { (2482 ≤ length words.old) × (i.count ≤ 65) × (points_of job.fields.request ≤ 65) × (job.fields.made ≤ 100) }
-    ensures { next_of result ≡ settled (held_of job) (exchanged_at job.fields (take i.count i.points) (take i.count i.weights) (take i.count i.abscissas)) }
-{
-    let fields = job.fields;
-    let n = i.count;
-    let x = i.points;
-    let wk = i.weights;
-    let yk = i.abscissas;
-    let m = exchange(fields, &x[..n], &wk[..n], &yk[..n], words);
-    settle(job, m)
-}
-
-// The step in the words it works in.
-pub(crate) fn step_in(job: Job, words: &mut [u64]) -> Stepped
+// The step in the words it works in. A call that is refused leaves the job as it was.
+#[tactic(auto, using(crate::proofs::StepLaws::step_unloaded, crate::proofs::StepLaws::step_finished, crate::proofs::StepLaws::step_failed))]
+pub(crate) fn step_in(job: &mut Job, words: &mut [u64]) -> Result<(), Refusal>
     requires { 2482 ≤ length words.old }
-    ensures { next_of result ≡ step_of (held_of job) (length words.old) }
+    ensures { next_of job.new result ≡ step_of (held_of job.old) (length words.old) }
 {
-    let a = job.loaded();
-    let interpolant = a.interpolant;
-    let verdict = a.verdict;
-    if let Verdict::Refused(why) = verdict {
-        return refused(job, why);
-    }
-    let state = job.state;
-    match state {
-        State::Running => run(job, interpolant, words),
-        State::Finished => refused(job, Refusal::State),
-        State::Failed(why) => refused(job, why),
+    let i = job.loaded()?;
+    match job.state {
+        State::Running => run(job, i, words),
+        State::Finished => Err(Refusal::State),
+        State::Failed(why) => Err(why),
     }
 }

@@ -1,4 +1,6 @@
 pub mod AnswerLaws
+pub mod ArrayLaws
 pub mod CountLaws
 pub mod EdgeLaws
 pub mod MatrixLaws
+pub mod PlanLaws

@@ -1,10 +1,10 @@
 -- What a caller in C is given.
+use Rattle.std.specs.Prelude.{Result, Ok, Err}
+use Rattle.numbers.specs.declared.Refusal.{Refusal}
 use Rattle.std.specs.Prelude.{ℕ, ◌≡◌, List, [], ◌∷◌, leb, Float}
 use Rattle.std.specs.Float.{nan}
 use Rattle.numbers.specs.Outcome.{Outcome, refused, gave, bind, unless}
 use Rattle.numbers.specs.Refusals.{refusal_number, front}
-use Rattle.numbers.specs.declared.Verdict.{Verdict}
-use Rattle.numbers.specs.declared.Verdict.TheVariants as verdict
 
 -- the number, or a NaN where the call is refused
 abbrev pub or_nan : Outcome Float → Float
@@ -16,9 +16,9 @@ abbrev pub number_of : {A : Type 0} → Outcome A → ℕ
 number_of (refused n) = n
 number_of (gave a) = 0
 
-abbrev pub said : Verdict → ℕ
-said verdict.Taken = 0
-said (verdict.Refused q) = refusal_number q
+abbrev pub said : Result Unit Refusal → ℕ
+said (Ok tt) = 0
+said (Err q) = refusal_number q
 
 -- a single number as a list, for an output of that room: refusal 15 where it has none
 abbrev pub single : ℕ → Outcome Float → Outcome (List Float)

@@ -3,9 +3,9 @@ use Rattle.std.specs.Prelude.{ℕ, ◌+◌, ◌*◌, ◌/◌, ◌%◌, ◌&&◌,
 use Rattle.numbers.specs.Loops.{tab}
 use Rattle.numbers.specs.Outcome.{Outcome, gave, bind, unless}
 use Rattle.fir_types.specs.declared.edges.Interval.{Interval}
-use Rattle.fir_types.specs.declared.edges.Edges.{Edges}
+use Rattle.fir_types.specs.Edges.{Edges}
 use Rattle.fir_types.specs.Edges.{interval}
-use Rattle.subdivision.specs.declared.cuts.Intervals.{Intervals}
+use Rattle.subdivision.specs.Subdivide.{Intervals}
 use Rattle.subdivision.specs.Subdivide.{subdivide_for}
 use Rattle.exports.specs.Answers.{Told, told}
 use Rattle.exports.specs.Plans.{number_at, edge_at}

@@ -5,7 +5,7 @@ use Rattle.numbers.specs.Floats.{zero64}
 use Rattle.numbers.specs.Loops.{until, tab}
 use Rattle.numbers.specs.Outcome.{Outcome, gave, bind, unless}
 use Rattle.colleague.specs.declared.Colleague.{Colleague}
-use Rattle.colleague.specs.Answer.{row_record, colleague_for}
+use Rattle.colleague.specs.Answer.{colleague_for}
 use Rattle.roots.specs.Answer.{roots_for}
 use Rattle.exports.specs.Answers.{Told, told}
 use Rattle.exports.specs.Plans.{number_at}
@@ -24,11 +24,11 @@ row_from l s i = tab (entry_from l s i) 15 0
 unfoldable pub matrix_of : List Float → Colleague
 matrix_of l =
     let s = side_of (length l) in
-    record { rows = tab (λ i. row_record (row_from l s i)) 15 0; size = s; passes = 0 }
+    record { rows = tab (row_from l s) 15 0; size = s; passes = 0 }
 
 -- entry (i, j) of a matrix, and entry k, counted row by row
 abbrev pub entry_of : Colleague → ℕ → ℕ → Float
-entry_of m i j = get_or (get_or m.rows i (row_record [])).entries j nan
+entry_of m i j = get_or (get_or m.rows i []) j nan
 
 abbrev pub entry_at : Colleague → ℕ → Float
 entry_at m k = entry_of m (k / m.size) (k % m.size)

@@ -1,4 +1,5 @@
 -- A plan and a symmetry as C hands them over.
+use Rattle.bands.specs.Numbered.{symmetry_of, value_of}
 use Rattle.std.specs.Prelude.{ℕ, ◌+◌, ◌*◌, ◌/◌, ◌%◌, Bool, ◌&&◌, cond, List, leb, ltb, eqb, length, get_or, Float}
 use Rattle.std.specs.Float.{nan}
 use Rattle.std.specs.Float.Ieee.Scale.{finite}
@@ -14,11 +15,8 @@ use Rattle.bands.specs.declared.Plan.{Plan}
 use Rattle.bands.specs.Lookup.{desired_at, weight_at}
 use Rattle.bands.specs.Rules.{plan_holds}
 use Rattle.fir_types.specs.declared.edges.Interval.{Interval}
+use Rattle.fir_types.specs.declared.target.Target.{Target}
 use Rattle.fir_types.specs.Edges.{interval, adjusted_for}
-
--- a constant takes the first of its two numbers
-abbrev pub value_from : ℕ → Float → Float → Value
-value_from kind a b = cond (eqb kind 0) (Constant a) (Linear a b)
 
 -- a number of the list, 0 past its end
 abbrev pub number_at : List Float → ℕ → Float
@@ -30,8 +28,8 @@ band_from kinds numbers i =
     record {
       begin = number_at numbers (6 * i);
       end = number_at numbers (6 * i + 1);
-      desired = value_from (get_or kinds (2 * i) 0) (number_at numbers (6 * i + 2)) (number_at numbers (6 * i + 3));
-      weight = value_from (get_or kinds (2 * i + 1) 0) (number_at numbers (6 * i + 4)) (number_at numbers (6 * i + 5));
+      desired = value_of (get_or kinds (2 * i) 0) (number_at numbers (6 * i + 2)) (number_at numbers (6 * i + 3));
+      weight = value_of (get_or kinds (2 * i + 1) 0) (number_at numbers (6 * i + 4)) (number_at numbers (6 * i + 5));
     }
 
 -- two kinds and six numbers a band, at most 8 bands, each kind 0 or 1
@@ -43,9 +41,6 @@ matched kinds numbers =
 unfoldable pub plan_of : List ℕ → List Float → Plan
 plan_of kinds numbers = record { bands = tab (band_from kinds numbers) 8 0; count = cond (matched kinds numbers) (length kinds / 2) 0 }
 
-abbrev pub symmetry_of : ℕ → Symmetry
-symmetry_of n = cond (eqb n 0) Even Odd
-
 -- 0 even, 1 odd, else refusal 5
 abbrev pub with_symmetry : {A : Type 0} → ℕ → (Symmetry → Outcome A) → Outcome A
 with_symmetry n k = unless (leb n 1) 5 (k (symmetry_of n))
@@ -53,6 +48,9 @@ with_symmetry n k = unless (leb n 1) 5 (k (symmetry_of n))
 -- any number but 0 says that the taps are odd
 abbrev pub says_odd : ℕ → Bool
 says_odd n = ltb 0 n
+
+abbrev pub target : Plan → Symmetry → Bool → Target
+target plan symmetry odd = record { plan = plan; symmetry = symmetry; odd = odd }
 
 -- the lookup as a leaf: 6 for a plan that breaks the rules for bands, 9 where f or the value is not finite
 unfoldable pub desired_for : Plan → Float → Outcome Float

@@ -1,31 +1,25 @@
 // How an answer is told to C.
 ghost use Rattle.std.specs.Prelude.{◌≡◌, length};
-ghost use Rattle.numbers.specs.Refusals.{scalar_of};
-ghost use Rattle.exports.specs.Answers.{said, single, Numbered};
+ghost use Rattle.numbers.specs.Refusals.{outcome_of, Filled};
+ghost use Rattle.exports.specs.Answers.{said, single};
 
-use numbers::{Refusal, Scalar, Verdict};
+use numbers::Refusal;
 
-pub fn told(v: Verdict) -> u64
-    ensures { result ≡ said v }
+// 0, or document 01's number of the refusal.
+pub fn told(answer: Result<(), Refusal>) -> u64
+    ensures { result ≡ said answer }
 {
-    match v {
-        Verdict::Taken => 0,
-        Verdict::Refused(q) => numbers::number(q),
+    match answer {
+        Ok(()) => 0,
+        Err(why) => u64::from(why),
     }
 }
 
 // A single number to the front of `out`.
-pub fn put(s: Scalar, out: &mut [f64]) -> u64
-    ensures { Numbered (single (length out.old) (scalar_of s)) result out.old out.new }
+pub fn put(number: Result<f64, Refusal>, out: &mut [f64]) -> Result<(), Refusal>
+    ensures { Filled (single (length out.old) (outcome_of number)) 1 result out.old out.new }
 {
-    if out.len() < 1 {
-        return numbers::number(Refusal::Lists);
-    }
-    match s {
-        Scalar::Value(x) => {
-            out[0] = x;
-            0
-        }
-        Scalar::Refused(q) => numbers::number(q),
-    }
+    let first = out.first_mut().ok_or(Refusal::Lists)?;
+    *first = number?;
+    Ok(())
 }

@@ -1,31 +1,31 @@
 // The leaves of the crates bands and fir_types. `symmetry` is 0 even, 1 odd, else refusal 5; `odd` is 0 where the number of taps
 // is even.
-ghost use Rattle.std.specs.Prelude.{◌≡◌, ◌*◌, ◌<◌, ◌≤◌, ◌++◌, length, drop};
-ghost use Rattle.numbers.specs.Loops.{tab};
-ghost use Rattle.numbers.specs.Refusals.{scalar_of, verdict_of};
+ghost use Rattle.std.specs.Prelude.{◌≡◌, Float, length};
+ghost use Rattle.std.specs.Float.Ieee.Scale.{finite};
+ghost use Rattle.numbers.specs.Outcome.{unless, needed_of};
+ghost use Rattle.numbers.specs.Refusals.{outcome_of};
+ghost use Rattle.bands.specs.Rules.{plan_holds};
 ghost use Rattle.fir_types.specs.Realizable.{realizable_for};
 ghost use Rattle.fir_types.specs.Adjusted.{adjusted_desired_for, adjusted_weight_for};
 ghost use Rattle.fir_types.specs.Taps.{taps_for};
-ghost use Rattle.exports.specs.Answers.{number_of, single, Numbered};
-ghost use Rattle.exports.specs.Plans.{plan_of, with_symmetry, says_odd, desired_for, weight_for, edge_at, edges_for};
+ghost use Rattle.exports.specs.Answers.{said, number_of, single, Numbered};
+ghost use Rattle.exports.specs.Plans.{plan_of, with_symmetry, says_odd, desired_for, weight_for, edges_for};
 
 use crate::{answers, plans};
 use bands::Plan;
-use fir_types::Edges;
-use numbers::{Refusal, Scalar, Verdict};
+use numbers::Refusal;
 
-fn desired(plan: Plan, f: f64) -> Scalar
-    ensures { scalar_of result ≡ desired_for plan f }
+// What a plan's bands give at f, where the plan holds and f and that are finite.
+#[tactic(auto, unfolding(bands::specs::Rules::plan_for))]
+fn looked_up<F: Fn(Plan, f64) -> f64>(plan: Plan, f: f64, value_at: F) -> Result<f64, Refusal>
+    requires { F.IsAlwaysCallable value_at }
+    ensures { (value : Float) → ((r : Float) → F.post value_at plan f r → r ≡ value) → outcome_of result ≡ unless (plan_holds plan) 6 (unless (finite f) 9 (needed_of value)) }
 {
-    let v = bands::check_bands(plan);
-    match v {
-        Verdict::Taken => if numbers::is_finite(f) {
-            numbers::needed(bands::desired_at(plan, f))
-        } else {
-            Scalar::Refused(Refusal::NotFinite)
-        },
-        Verdict::Refused(q) => Scalar::Refused(q),
+    bands::check_bands(plan)?;
+    if !numbers::is_finite(f) {
+        return Err(Refusal::NotFinite);
     }
+    numbers::needed(value_at(plan, f))
 }
 
 // The desired value at f, in cycles per sample.
@@ -33,21 +33,8 @@ fn desired(plan: Plan, f: f64) -> Scalar
 pub extern "C" fn stepsheaf_desired(kinds: &[u64], numbers: &[f64], f: f64, out: &mut [f64]) -> u64
     ensures { Numbered (single (length out.old) (desired_for (plan_of kinds.now numbers.now) f)) result out.old out.new }
 {
-    answers::put(desired(plans::plan_of(kinds, numbers), f), out)
-}
-
-fn weight(plan: Plan, f: f64) -> Scalar
-    ensures { scalar_of result ≡ weight_for plan f }
-{
-    let v = bands::check_bands(plan);
-    match v {
-        Verdict::Taken => if numbers::is_finite(f) {
-            numbers::needed(bands::weight_at(plan, f))
-        } else {
-            Scalar::Refused(Refusal::NotFinite)
-        },
-        Verdict::Refused(q) => Scalar::Refused(q),
-    }
+    let value = looked_up(plans::plan_of(kinds, numbers), f, bands::desired_at);
+    answers::told(answers::put(value, out))
 }
 
 // The weight at f, in cycles per sample.
@@ -55,7 +42,8 @@ fn weight(plan: Plan, f: f64) -> Scalar
 pub extern "C" fn stepsheaf_weight(kinds: &[u64], numbers: &[f64], f: f64, out: &mut [f64]) -> u64
     ensures { Numbered (single (length out.old) (weight_for (plan_of kinds.now numbers.now) f)) result out.old out.new }
 {
-    answers::put(weight(plans::plan_of(kinds, numbers), f), out)
+    let value = looked_up(plans::plan_of(kinds, numbers), f, bands::weight_at);
+    answers::told(answers::put(value, out))
 }
 
 // The response check: it writes nothing.
@@ -68,23 +56,8 @@ pub extern "C" fn stepsheaf_check_response(
 ) -> u64
     ensures { result ≡ number_of (with_symmetry symmetry (λ s. realizable_for (plan_of kinds.now numbers.now) s (says_odd odd))) }
 {
-    if 1 < symmetry {
-        return numbers::number(Refusal::Request);
-    }
-    answers::told(fir_types::check_response(
-        plans::plan_of(kinds, numbers),
-        plans::symmetry_of(symmetry),
-        0 < odd,
-    ))
-}
-
-fn adjusted_desired(plan: Plan, symmetry: u64, odd: u64, f: f64) -> Scalar
-    ensures { scalar_of result ≡ with_symmetry symmetry (λ s. adjusted_desired_for plan s (says_odd odd) f) }
-{
-    if 1 < symmetry {
-        return Scalar::Refused(Refusal::Request);
-    }
-    fir_types::adjust_desired(plan, plans::symmetry_of(symmetry), 0 < odd, f)
+    let target = plans::target_of(plans::plan_of(kinds, numbers), symmetry, odd);
+    answers::told(target.and_then(|t| t.check_response()))
 }
 
 // The adjusted desired value at f radians.
@@ -99,19 +72,8 @@ pub extern "C" fn stepsheaf_adjust_desired(
 ) -> u64
     ensures { Numbered (single (length out.old) (with_symmetry symmetry (λ s. adjusted_desired_for (plan_of kinds.now numbers.now) s (says_odd odd) f))) result out.old out.new }
 {
-    answers::put(
-        adjusted_desired(plans::plan_of(kinds, numbers), symmetry, odd, f),
-        out,
-    )
-}
-
-fn adjusted_weight(plan: Plan, symmetry: u64, odd: u64, f: f64) -> Scalar
-    ensures { scalar_of result ≡ with_symmetry symmetry (λ s. adjusted_weight_for plan s (says_odd odd) f) }
-{
-    if 1 < symmetry {
-        return Scalar::Refused(Refusal::Request);
-    }
-    fir_types::adjust_weights(plan, plans::symmetry_of(symmetry), 0 < odd, f)
+    let target = plans::target_of(plans::plan_of(kinds, numbers), symmetry, odd);
+    answers::told(answers::put(target.and_then(|t| t.adjust_desired(f)), out))
 }
 
 // The adjusted weight at f radians.
@@ -126,51 +88,20 @@ pub extern "C" fn stepsheaf_adjust_weights(
 ) -> u64
     ensures { Numbered (single (length out.old) (with_symmetry symmetry (λ s. adjusted_weight_for (plan_of kinds.now numbers.now) s (says_odd odd) f))) result out.old out.new }
 {
-    answers::put(
-        adjusted_weight(plans::plan_of(kinds, numbers), symmetry, odd, f),
-        out,
-    )
+    let target = plans::target_of(plans::plan_of(kinds, numbers), symmetry, odd);
+    answers::told(answers::put(target.and_then(|t| t.adjust_weights(f)), out))
 }
 
-fn edge(e: Edges, k: usize) -> f64
-    requires { k < 16 }
-    ensures { result ≡ edge_at e.list k }
-{
-    let b = e.list[k / 2];
-    if k % 2 == 0 { b.begin } else { b.end }
-}
-
-// Begin and end of each interval.
-fn edges_into(e: Edges, out: &mut [f64])
-    requires { (e.count ≤ 8) × (2 * e.count ≤ length out.old) }
-    ensures { out.new ≡ tab (edge_at e.list) (2 * e.count) 0 ++ drop (2 * e.count) out.old }
-{
-    let n = 2 * e.count;
-    let mut k: usize = 0;
-    while k < n {
-        out[k] = edge(e, k);
-        k += 1;
-    }
-}
-
-fn adjusted_edges(plan: Plan, symmetry: u64, odd: bool, out: &mut [f64]) -> u64
-    ensures { Numbered (edges_for plan symmetry odd (length out.old)) result out.old out.new }
+#[tactic(auto, unfolding(crate::specs::Plans::edges_for), using(crate::proofs::EdgeLaws::edges_given))]
+fn adjusted_edges(plan: Plan, symmetry: u64, odd: u64, out: &mut [f64]) -> Result<(), Refusal>
+    ensures { Numbered (edges_for plan symmetry (says_odd odd) (length out.old)) (said result) out.old out.new }
 {
     if out.len() / 2 < plan.count {
-        return numbers::number(Refusal::Lists);
+        return Err(Refusal::Lists);
     }
-    if 1 < symmetry {
-        return numbers::number(Refusal::Request);
-    }
-    let a = fir_types::adjust_bands(plan, plans::symmetry_of(symmetry), odd);
-    let v = a.verdict;
-    match v {
-        Verdict::Taken => {
-            edges_into(a.edges, out);
-            0
-        }
-        Verdict::Refused(q) => numbers::number(q),
-    }
+    let edges = plans::target_of(plan, symmetry, odd)?.adjust_bands()?;
+    plans::ends_into(&edges.list[..edges.count], out);
+    Ok(())
 }
 
 // The adjusted bands' edges, begin and end of each. `out` has room for as many pairs as the plan has bands.
@@ -184,7 +115,19 @@ pub extern "C" fn stepsheaf_adjust_bands(
 ) -> u64
     ensures { Numbered (edges_for (plan_of kinds.now numbers.now) symmetry (says_odd odd) (length out.old)) result out.old out.new }
 {
-    adjusted_edges(plans::plan_of(kinds, numbers), symmetry, 0 < odd, out)
+    answers::told(adjusted_edges(plans::plan_of(kinds, numbers), symmetry, odd, out))
+}
+
+fn taps_into(
+    coefficients: &[f64],
+    taps: usize,
+    symmetry: u64,
+    out: &mut [f64],
+) -> Result<(), Refusal>
+    ensures { Numbered (with_symmetry symmetry (λ s. taps_for coefficients.now taps s (length out.old))) (said result) out.old out.new }
+{
+    let symmetry = plans::symmetry_in(symmetry)?;
+    fir_types::h_from_ak(coefficients, taps, symmetry, out)
 }
 
 // The taps of the coefficients. A symmetry above 1 is refused first: without it no list has a right length.
@@ -197,8 +140,5 @@ pub extern "C" fn stepsheaf_taps(
 ) -> u64
     ensures { Numbered (with_symmetry symmetry (λ s. taps_for coefficients.now taps s (length out.old))) result out.old out.new }
 {
-    if 1 < symmetry {
-        return numbers::number(Refusal::Request);
-    }
-    answers::told(fir_types::h_from_ak(coefficients, taps, plans::symmetry_of(symmetry), out))
+    answers::told(taps_into(coefficients, taps, symmetry, out))
 }

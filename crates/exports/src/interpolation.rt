@@ -26,10 +26,8 @@ pub extern "C" fn stepsheaf_delta(
 ) -> u64
     ensures { Numbered (single (length out.old) (delta_for weights.now desired.now band_weights.now)) result out.old out.new }
 {
-    answers::put(
-        barycentric::compute_delta(weights, desired, band_weights),
-        out,
-    )
+    let delta = barycentric::compute_delta(weights, desired, band_weights);
+    answers::told(answers::put(delta, out))
 }
 
 // The abscissas of 1 to 65 points.
@@ -56,7 +54,8 @@ pub extern "C" fn stepsheaf_response(
 ) -> u64
     ensures { Numbered (single (length out.old) (response_for x0 x.now w.now y.now)) result out.old out.new }
 {
-    answers::put(barycentric::compute_freq_response(x0, x, w, y), out)
+    let response = barycentric::compute_freq_response(x0, x, w, y);
+    answers::told(answers::put(response, out))
 }
 
 // The responses at 1 to 65 places.

@@ -4,15 +4,15 @@
 // number of the refusal, and writes its numbers to the front of `out`: a single number to its first place, and nothing where it
 // is refused. Where the leaf decides how many numbers there are, `counts` says it. A slice is handed over as its address and its
 // length.
-#![tactic(auto)]
+#![tactic(auto, using(crate::proofs::AnswerLaws::numbered))]
 
 ghost use Rattle.std.specs.Prelude.{◌≡◌};
-ghost use Rattle.numbers.specs.Refusals.{scalar_of};
+ghost use Rattle.numbers.specs.Refusals.{outcome_of};
 ghost use Rattle.angles.specs.Turns.{cosine_of, sine_of};
 ghost use Rattle.angles.specs.Arccosine.{arccosine_of};
 ghost use Rattle.exports.specs.Answers.{or_nan};
 
-use numbers::Scalar;
+use numbers::Refusal;
 
 mod answers;
 mod candidates;
@@ -23,6 +23,7 @@ mod matrices;
 mod plans;
 mod polynomials;
 
+pub use answers::told;
 pub use candidates::{stepsheaf_prune, stepsheaf_sort_candidates};
 pub use filters::{
     stepsheaf_adjust_bands, stepsheaf_adjust_desired, stepsheaf_adjust_weights,
@@ -34,16 +35,13 @@ pub use interpolation::{
 };
 pub use intervals::{stepsheaf_initial_extremal_freqs, stepsheaf_subdivide};
 pub use matrices::{stepsheaf_colleague_matrix, stepsheaf_roots};
-pub use plans::{plan_of, symmetry_of};
+pub use plans::plan_of;
 pub use polynomials::{stepsheaf_coefficients, stepsheaf_nodes};
 
-fn or_nan(s: Scalar) -> f64
-    ensures { result ≡ or_nan (scalar_of s) }
+fn or_nan(number: Result<f64, Refusal>) -> f64
+    ensures { result ≡ or_nan (outcome_of number) }
 {
-    match s {
-        Scalar::Value(x) => x,
-        Scalar::Refused(_) => 0.0 / 0.0,
-    }
+    number.unwrap_or(f64::NAN)
 }
 
 // The cosine of an angle from 0 to 3.25.

@@ -1,4 +1,5 @@
 // The archive of the crate exports, for C and whatever calls C: each function is the one of its name there, with its very clauses.
+// Kept: the C interface: an archive has the names that its own crate exports, so each stands here again.
 #![tactic(auto)]
 
 ghost use Rattle.std.specs.Prelude.{◌≡◌};

@@ -8,11 +8,11 @@ use native.Mathlib.Omega.{arith}
 use native.Mathlib.Nat.{zero-add, not-suc-le-zero, le_of_suc-le-suc}
 use borrow.Author.Tests.{le-leb, ne_eqb}
 use lib.Dec.{leb}
-use lib.ListN.{length, get_or, take, drop, length-map, length-drop, get_or-map, take-append-drop}
+use lib.ListN.{length, get_or, take, drop, replicate, length-map, length-drop, get_or-map, take-append-drop}
 use lib.Seq.{take_at, drop_at, take-take, take-add, length-take-le, get_or-take, get_or-drop}
-use lib.Ieee.{Float, nan}
+use lib.Ieee.{Float, nan, of_bits}
 use lib.Ieee.Scale.{finite}
-use Rattle.numbers.specs.Floats.{all_finite}
+use Rattle.numbers.specs.Floats.{zero64, all_finite}
 use Rattle.numbers.specs.Loops.{tab}
 use Rattle.numbers.specs.Outcome.{Outcome, gave, bind, sweep, gather}
 use Rattle.numbers.proofs.Order.{and_1, and_2}
@@ -76,6 +76,26 @@ joined-own q =
     ∙ tab-same (λ i. candidate (get_or (map place_of q) i nan) (get_or (map error_of q) i nan)) (λ i. get_or q i blank) (length q) 0
     (λ k a b. (λ j. candidate (place_at q k j) (error_at_lem q k j)))
     ∙ sym (tab-own q blank (length q) refl)
+
+-- places joined to errors that are still to come
+pub zeros_finite : (n m : ℕ) → all_finite (take n (replicate m zero64)) ≡ true
+unfolding all_finite of_bits
+zeros_finite zero m = refl
+zeros_finite (suc n) zero = refl
+zeros_finite (suc n) (suc m) = zeros_finite n m
+
+zero_at : (n m k : ℕ) → k < n → n ≤ m → get_or (take n (replicate m zero64)) k nan ≡ zero64
+zero_at zero m k h q = elim h [ ]
+zero_at (suc n) zero k h q = absurd (omega arith)
+zero_at (suc n) (suc m) zero h q = refl
+zero_at (suc n) (suc m) (suc k) h q = zero_at n m k (omega arith) (omega arith)
+
+pub joined-zeros : (places : List Float) (m : ℕ) → length places ≤ m → joined places (take (length places) (replicate m zero64)) ≡ map mark places
+joined-zeros places m h =
+    let n = length places in
+    tab-same (λ i. candidate (get_or places i nan) (get_or (take n (replicate m zero64)) i nan)) (λ i. mark (get_or places i nan)) n 0
+    (λ k a b. ap (candidate (get_or places k nan)) (zero_at n m k (omega arith) h))
+    ∙ sym (map-tab mark places nan)
 
 -- ---- what an error at a place tells and asks for, all else alike
 module _ (c : Curve) where

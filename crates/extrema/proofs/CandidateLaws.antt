@@ -8,9 +8,8 @@ use native.Mathlib.Nat.{add-zero, sub-zero}
 use borrow.Author.Tests.{ne_eqb, eq-eqb}
 use lib.Dec.{T}
 use lib.ListN.{length}
-use lib.Ieee.{Float, binary64, fits, is_nan, of_bits}
+use lib.Ieee.{Float, binary64, fits, is_nan}
 use lib.Ieee.Scale.{finite}
-use Rattle.numbers.specs.Floats.{zero64}
 use Rattle.numbers.specs.Loops.{tab}
 use Rattle.numbers.proofs.Unit.{number_is}
 use Rattle.pruning.specs.declared.candidates.Candidate.{Candidate}
@@ -19,7 +18,6 @@ use Rattle.pruning.proofs.ViewLaws.{sound, view_more, length-put, framed_same, f
 use Rattle.numbers.specs.Outcome.{refused, gave}
 use Rattle.extrema.specs.Errors.{Curve, errors_for}
 use Rattle.extrema.specs.Candidates.{candidate, joined, candidates_for}
-use Rattle.extrema.specs.Batches.{mark}
 
 -- a candidate of finite numbers is read as it was written
 pub finite_written : (x e : Float) → T (fits binary64 x) → finite x ≡ true → T (fits binary64 e) → finite e ≡ true → written (candidate x e) ≡ candidate x e
@@ -28,10 +26,6 @@ finite_written x e f p g q =
   where
     number_is_not : (y : Float) → finite y ≡ true → T (not (is_nan y))
     number_is_not y h = rw (number_is y h) (tt {0})
-
-pub mark-written : (x : Float) → T (fits binary64 x) → finite x ≡ true → written (mark x) ≡ mark x
-unfolding of_bits fits
-mark-written x f p = finite_written x zero64 f p tt refl
 
 -- ---- the candidates at some places: of their errors; the refusal of these; or none at no places
 module _ (c : Curve) (places : List Float) where

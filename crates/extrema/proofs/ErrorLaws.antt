@@ -1,4 +1,5 @@
 -- What errors that were given tell: they and their places are finite, and there is one for each place. Assumes nothing.
+use Rattle.std.specs.Prelude.{Result, Ok}
 use Prim.Native.Nat.{ℕ, ◌+◌, ◌<◌, ◌≤◌}
 use mathlib.Core.Path.{◌≡◌, refl}
 use mathlib.Core.Bool.{Bool, true, ◌&&◌}
@@ -12,13 +13,11 @@ use lib.Ieee.Fits.{mul-fits}
 use lib.Ieee.Scale.{finite}
 use Rattle.numbers.specs.Floats.{all_finite}
 use Rattle.numbers.specs.Operations.{◌⊖◌, ◌⊗◌}
-use Rattle.numbers.specs.Outcome.{Outcome, refused, gave, unless, needed_of, needed_list_of}
-use Rattle.numbers.specs.Refusals.{refusal_number, Filled}
+use Rattle.numbers.specs.Outcome.{Outcome, gave, unless, needed_of, needed_list_of}
+use Rattle.numbers.specs.Refusals.{Filled}
 use Rattle.numbers.specs.declared.Refusal.{Refusal}
-use Rattle.numbers.specs.declared.Verdict.{Verdict}
-use Rattle.numbers.specs.declared.Verdict.TheVariants as verdict
 use Rattle.numbers.proofs.Order.{and_1}
-use Rattle.numbers.proofs.OutcomeLaws.{bind_next, bind_stop, filled_is, filled_refused}
+use Rattle.numbers.proofs.OutcomeLaws.{filled_is}
 use Rattle.numbers.proofs.Given.{gave_same, unless_given, bind_given, gather-length, gather-at, gather_finite}
 use Rattle.numbers.proofs.FiniteLaws.{given_finite}
 use Rattle.angles.specs.Arccosine.{arccosine_of}
@@ -30,7 +29,7 @@ use Rattle.fir_types.specs.Adjusted.{adjusted_desired, adjusted_weight}
 use Rattle.extrema.specs.Errors.{Curve, weighted, error_at, error_from, errors_from, errors_for}
 
 -- a leaf that has filled the whole of a list
-pub filled_whole : {A : Type 0} {o : Outcome (List A)} {n : ℕ} {r : Verdict} {w w' : List A} → Filled o n r w w' → length w' ≡ n → r ≡ verdict.Taken → gave w' ≡ o
+pub filled_whole : {A : Type 0} {o : Outcome (List A)} {n : ℕ} {r : Result Unit Refusal} {w w' : List A} → Filled o n r w w' → length w' ≡ n → r ≡ (Ok tt) → gave w' ≡ o
 filled_whole {A} {o} {n} {r} {w} {w'} a e h = let l : length w' ≤ n = omega arith in rw (take_all n w' l) at (filled_is a n refl h)
 
 -- an error that was given is finite, and as a rounded product a number of 64 bits
@@ -62,17 +61,6 @@ places_finite c places h q =
     (unless (all_finite places && three) 9 last)
     q in
     and_1 (all_finite places) three (unless_given (all_finite places && three) 9 last a.rest).test
-
--- ---- the responses, and then the errors
-module _ (c : Curve) (places : List Float) {m : ℕ} {r : Verdict} {w h : List Float}
-    (a : Filled (responses_for places c.x c.weights c.abscissas m) (length places) r w h) (e : m ≡ length places) where
-  pub errors_next : {z : Outcome (List Float)} → length h ≡ length places → r ≡ verdict.Taken → z ≡ errors_from c.plan c.symmetry c.odd places h → z ≡ errors_for c places
-  unfolding errors_for
-  errors_next l t q = bind_next _ (rw e at (filled_whole a l t)) q
-
-  pub errors_stop : {q : Refusal} → r ≡ verdict.Refused q → refused (refusal_number q) ≡ errors_for c places
-  unfolding errors_for
-  errors_stop t = bind_stop _ (rw e at (filled_refused a t))
 
 pub record Given (places e : List Float) : Type 0 where
   pub places_are : all_finite places ≡ true

@@ -1,22 +1,23 @@
 -- What is kept of the candidates: how many, and from where. Assumes nothing.
+use Rattle.std.specs.Prelude.{Result, Ok, Err}
 use Prim.Native.Nat.{ℕ, zero, suc, ◌+◌, ◌-◌, ◌/◌, ◌<◌, ◌≤◌}
 use mathlib.Core.Path.{◌≡◌, refl, sym, ap, ◌∙◌}
 use mathlib.Core.List.{List, [], ◌∷◌, ◌++◌, map}
 use native.Mathlib.Nat.{sub-zero, zero-add, not-suc-le-zero, le_of_suc-le-suc}
 use native.Mathlib.Omega.{arith}
-use lib.ListN.{length, get_or, set, drop, replicate, length-map}
+use lib.ListN.{length, get_or, drop, replicate, length-map}
 use lib.Seq.{get_or-take, take_all}
 use lib.Ieee.{Float}
 use Rattle.numbers.specs.Floats.{all_finite}
-use Rattle.numbers.specs.Outcome.{gave, bind, unless}
-use Rattle.numbers.specs.Refusals.{Filled, Answers}
+use Rattle.numbers.specs.Loops.{tab}
+use Rattle.numbers.specs.Outcome.{refused, gave, unless}
+use Rattle.numbers.specs.Refusals.{refusal_number, Filled}
 use Rattle.numbers.specs.declared.Refusal.{Refusal}
-use Rattle.numbers.specs.declared.Verdict.{Verdict}
-use Rattle.numbers.specs.declared.Verdict.TheVariants as verdict
 use Rattle.numbers.proofs.Given.{unless_given}
 use Rattle.numbers.proofs.Lanes.{tab-same}
-use Rattle.numbers.proofs.OutcomeLaws.{filled_is, filled_refused, answers, answers_none}
-use Rattle.numbers.proofs.LoopLaws.{Going, next, put, map_start, length-tab}
+use Rattle.numbers.proofs.OutcomeLaws.{filled_is, filled_refused}
+use Rattle.numbers.proofs.InPlace.{map-tab}
+use Rattle.numbers.proofs.LoopLaws.{length-tab}
 use Rattle.pruning.specs.declared.candidates.Candidate.{Candidate}
 use Rattle.pruning.specs.Candidates.{none, all, view}
 use Rattle.pruning.proofs.ViewLaws.{length-view}
@@ -25,7 +26,6 @@ use Rattle.pruning.specs.Errors.{sized, kept_places, prune_for}
 use Rattle.pruning.specs.Sort.{sorted_words}
 use Rattle.pruning.proofs.Places.{places_rise}
 use Rattle.pruning.proofs.SortLaws.{length_sorted_words, view-sorted}
-use Rattle.extrema.specs.declared.Kept.{Kept}
 use Rattle.extrema.specs.Extrema.{error_of, chosen, kept_of, pruned_to, packed}
 
 drop-replicate : {A : Type 0} (n m : ℕ) (z : A) → drop n (replicate m z) ≡ replicate (m - n) z
@@ -40,15 +40,14 @@ packs l places h =
     let e : length (chosen l places) ≡ length places = length-tab (λ i. get_or l (get_or places i 0) none) (length places) 0 in
     rw (e, drop-replicate (length places) 65 none)
 
--- errors read from the words, entry by entry
-pub errors_start : (w : List ℕ) (o : List Float) → length o ≤ length w / 2
-    → Going (put (λ k. error_of (get_or (view w (length o)) k none))) (length o) 0 o (map error_of (view w (length o)))
-errors_start w o h = map_start error_of (view w (length o)) none o (length o) (length-view w (length o) h) refl
-
-pub errors_next : (w : List ℕ) {n i : ℕ} {s r : List Float} {c : Candidate}
-    → Going (put (λ k. error_of (get_or (view w n) k none))) n i s r → i < n → c ≡ get_or (all w) i none
-    → Going (put (λ k. error_of (get_or (view w n) k none))) n (i + 1) (set s i c.error) r
-errors_next w {n} {i} {s} {r} {c} g h e = next g h (ap (λ d. set s i (error_of d)) (e ∙ sym (get_or-take n (all w) i none h)))
+-- what is read of the first m candidates
+pub read_front : (f : Candidate → Float) (w : List ℕ) (m : ℕ) → m ≤ length w / 2 → tab (λ k. f (get_or (all w) (0 + k) none)) m 0 ≡ map f (view w m)
+read_front f w m h =
+    sym
+    (map-tab f (view w m) none
+    ∙ ap (λ z. tab (λ k. f (get_or (view w m) k none)) z 0) (length-view w m h)
+    ∙ tab-same (λ k. f (get_or (view w m) k none)) (λ k. f (get_or (all w) (0 + k) none)) m 0
+    (λ k a b. ap f (rw zero-add (get_or-take m (all w) k none (rw zero-add at b)))))
 
 -- ---- the places that pruning gives are places of the candidates that are there
 rising-at : (k n : ℕ) (u : List ℕ) → RisingFrom k n u → (i : ℕ) → i < length u → get_or u i 0 < n
@@ -70,27 +69,23 @@ chosen-view w m u r =
 
 -- ---- what is answered, of pruning's verdict v and the places p' that it leaves
 module _ (w : List ℕ) (m n : ℕ) (e : List Float) (e-is : e ≡ map error_of (view w m)) (p p' : List ℕ) (room : length p ≡ n) where
-  pub kept_taken : m ≤ length w / 2 → length p' ≡ n → {v : Verdict} → Filled (prune_for e n (length p)) n v p p' → v ≡ verdict.Taken
-      → Answers (packed []) (bind (kept_of n (view w m)) (λ l. gave (packed l))) verdict.Taken (packed (chosen (all w) p'))
+  pub kept_taken : m ≤ length w / 2 → length p' ≡ n → {v : Result Unit Refusal} → Filled (prune_for e n (length p)) n v p p' → v ≡ (Ok tt) → gave (chosen (all w) p') ≡ kept_of n (view w m)
   unfolding kept_of
   kept_taken h long {v} f t =
       let g : gave p' ≡ prune_for e n n = rw (take_all n p' (omega (arith, long)), room) at (filled_is f n refl t) in
       let len : length e ≡ m = rw e-is (length-map (view w m) error_of ∙ length-view w m h) in
       let r : RisingFrom 0 m p' = rw len at (leaf_rises e n n p' (sym g)) in
-      answers (rw (← e-is, ← g, chosen-view w m p' r))
+      rw (← e-is, ← g, chosen-view w m p' r)
 
-  pub kept_refused : {v : Verdict} → Filled (prune_for e n (length p)) n v p p' → {q : Refusal} → v ≡ verdict.Refused q
-      → Answers (packed []) (bind (kept_of n (view w m)) (λ l. gave (packed l))) (verdict.Refused q) (packed [])
+  pub kept_refused : {v : Result Unit Refusal} → Filled (prune_for e n (length p)) n v p p' → {q : Refusal} → v ≡ Err q → refused (refusal_number q) ≡ kept_of n (view w m)
   unfolding kept_of
-  kept_refused {v} f {q} t = answers_none (let g = rw room at (filled_refused f t) in rw (← e-is, ← g))
+  kept_refused {v} f {q} t = let g = rw room at (filled_refused f t) in rw (← e-is, ← g)
 
 -- ---- the words of the candidates, sorted
 module _ (w w' : List ℕ) (count : ℕ) (e : w' ≡ sorted_words w count) where
-  pub sorted_room : {m : ℕ} → m ≡ count → count ≤ length w / 2 → m ≤ length w' / 2
-  sorted_room k h = rw (e, length_sorted_words w count) (omega (arith, k, h))
+  pub sorted_room : count ≤ length w / 2 → count ≤ length w' / 2
+  sorted_room h = rw (e, length_sorted_words w count) h
 
-  pub sorted_view : (n : ℕ) {m : ℕ} → m ≡ count → {v : Verdict} {k : Kept}
-      → Answers (packed []) (bind (kept_of n (view w' m)) (λ l. gave (packed l))) v k
-      → Answers (packed []) (bind (pruned_to n (view w count)) (λ l. gave (packed l))) v k
+  pub sorted_kept : (n : ℕ) → kept_of n (view w' count) ≡ pruned_to n (view w count)
   unfolding pruned_to
-  sorted_view n h a = rw (h, e, view-sorted w count) at a
+  sorted_kept n = rw (e, view-sorted w count)

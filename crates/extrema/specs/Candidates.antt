@@ -1,10 +1,11 @@
 -- Candidates: places with their errors, behind those that are already there.
+use Rattle.std.specs.Prelude.{Result}
+use Rattle.numbers.specs.declared.Refusal.{Refusal}
 use Rattle.std.specs.Prelude.{ℕ, ◌+◌, ◌/◌, ◌≤◌, ◌≡◌, cond, List, ◌++◌, eqb, length, get_or, Float}
 use Rattle.std.specs.Float.{nan}
 use Rattle.numbers.specs.Loops.{tab}
 use Rattle.numbers.specs.Outcome.{Outcome, gave, bind}
 use Rattle.numbers.specs.Refusals.{count_of, few}
-use Rattle.numbers.specs.declared.Count.{Count}
 use Rattle.pruning.specs.declared.candidates.Candidate.{Candidate}
 use Rattle.pruning.specs.Candidates.{all, view}
 use Rattle.extrema.specs.Errors.{Curve, errors_for}
@@ -22,7 +23,7 @@ candidates_for c places l =
 
 -- ---- the contract of every function that works on the candidates in the words: from the first n of w to those of w', at most k
 -- more, as f says
-pub record Stage (k : ℕ) (f : List Candidate → Outcome (List Candidate)) (n : ℕ) (r : Count) (w w' : List ℕ) : Type 0 where
+pub record Stage (k : ℕ) (f : List Candidate → Outcome (List Candidate)) (n : ℕ) (r : Result ℕ Refusal) (w w' : List ℕ) : Type 0 where
   pub is : count_of r (all w') ≡ f (view w n)
   pub most : few r ≤ n + k
   pub long : length w' ≡ length w

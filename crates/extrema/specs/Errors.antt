@@ -8,6 +8,7 @@ use Rattle.bands.specs.declared.Symmetry.{Symmetry}
 use Rattle.bands.specs.declared.Plan.{Plan}
 use Rattle.barycentric.specs.Response.{responses_for}
 use Rattle.fir_types.specs.Adjusted.{adjusted_desired, adjusted_weight}
+use Rattle.extrema.specs.declared.curve.Curve as given
 
 -- what an error is worked out from: the plan and the type; the points, their weights and abscissas
 pub record Curve : Type 0 where
@@ -20,6 +21,10 @@ pub record Curve : Type 0 where
 
 abbrev pub curve : Plan → Symmetry → Bool → List Float → List Float → List Float → Curve
 curve p s odd x w y = record { plan = p; symmetry = s; odd = odd; x = x; weights = w; abscissas = y }
+
+-- that of the code's struct
+abbrev pub curve_of : given.Curve → Curve
+curve_of c = curve c.target.plan c.target.symmetry c.target.odd c.x.now c.wk.now c.yk.now
 
 -- of the response h and the desired value d at the angle f
 abbrev pub weighted : Plan → Symmetry → Bool → Float → Float → Float → Outcome Float

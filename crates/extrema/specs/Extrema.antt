@@ -1,19 +1,20 @@
 -- The extrema of an exchange, in computing order: the ends of all subintervals as subdivided; then each subinterval's proxy, matrix, roots
 -- and candidates; then these sorted by x and pruned to n, or 13.
-use Rattle.std.specs.Prelude.{ℕ, ◌+◌, ◌-◌, ◌≡◌, ◌&&◌, cond, List, [], ◌++◌, map, leb, ltb, length, get_or, take, drop, replicate, Float}
+use Rattle.std.specs.Prelude.{Result, ℕ, ◌+◌, ◌-◌, ◌≡◌, ◌&&◌, cond, List, [], ◌++◌, map, leb, ltb, length, get_or, take, drop, replicate, Float}
 use Rattle.numbers.specs.Loops.{tab}
 use Rattle.numbers.specs.Outcome.{Outcome, gave, bind, unless, sweep}
-use Rattle.numbers.specs.Refusals.{Answers}
+use Rattle.numbers.specs.Refusals.{outcome_of}
+use Rattle.numbers.specs.declared.Refusal.{Refusal}
 use Rattle.chebyshev.specs.Nodes.{least_degree, most_degree, nodes_for}
 use Rattle.fir_types.specs.declared.edges.Interval.{Interval}
-use Rattle.subdivision.specs.declared.cuts.Intervals.{Intervals}
+use Rattle.subdivision.specs.Subdivide.{Intervals}
 use Rattle.subdivision.specs.Subdivide.{most_intervals}
 use Rattle.pruning.specs.declared.candidates.Candidate.{Candidate}
 use Rattle.pruning.specs.Candidates.{none}
 use Rattle.pruning.specs.Errors.{prune_for}
 use Rattle.pruning.specs.Sort.{sorted, by_x}
-use Rattle.extrema.specs.declared.Kept.{Kept}
-use Rattle.extrema.specs.declared.Extrema.{Extrema}
+use Rattle.listed.specs.declared.Listed.{Listed}
+use Rattle.listed.specs.Listed.{listed}
 use Rattle.extrema.specs.Errors.{Curve}
 use Rattle.extrema.specs.Proxy.{ends_of, inside_of}
 
@@ -60,15 +61,18 @@ extrema_in c v degree n =
 unfoldable pub extrema_for : Curve → Intervals → ℕ → ℕ → ℕ → Outcome (List Candidate)
 extrema_for c v degree n words = unless (leb words_needed words) 1 (extrema_in c v degree n)
 
--- candidates at the front of an array that is zero beyond them
+-- up to so many, zeros beyond them
+abbrev pub Kept : Type 0
+Kept = Listed Candidate most_kept
+
 abbrev pub packed : List Candidate → Kept
-packed l = record { list = l ++ replicate (most_kept - length l) none; count = length l }
+packed = listed none most_kept
 
 -- those words are zero afterwards, the others as they were; all as they were for 1
 abbrev pub wiped : List ℕ → List ℕ
 wiped w = cond (ltb (length w) words_needed) w (replicate words_needed 0 ++ drop words_needed w)
 
--- The contract: the candidates that are kept, or none; and the words.
-pub record Found (c : Curve) (v : Intervals) (degree n : ℕ) (r : Extrema) (w w' : List ℕ) : Type 0 where
-  pub kept : Answers (packed []) (bind (extrema_for c v degree n (length w)) (λ l. gave (packed l))) r.verdict r.kept
+-- The contract: the candidates that are kept, or why there are none; and the words.
+pub record Found (c : Curve) (v : Intervals) (degree n : ℕ) (r : Result Kept Refusal) (w w' : List ℕ) : Type 0 where
+  pub kept : outcome_of r ≡ bind (extrema_for c v degree n (length w)) (λ l. gave (packed l))
   pub words : w' ≡ wiped w

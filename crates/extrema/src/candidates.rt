@@ -1,12 +1,14 @@
-ghost use Rattle.std.specs.Prelude.{◌≡◌, true, ◌++◌, ◌+◌, ◌≤◌, length};
+ghost use Rattle.std.specs.Prelude.{◌≡◌, true, ◌++◌, ◌+◌, ◌≤◌, ◌/◌, length, get_or, Float};
 ghost use Rattle.numbers.specs.Floats.{all_finite};
-ghost use Rattle.pruning.specs.Candidates.{view, Framed};
-ghost use Rattle.extrema.specs.Errors.{curve};
-ghost use Rattle.extrema.specs.Candidates.{joined, candidates_for, Stage, Room};
+ghost use Rattle.numbers.specs.Loops.{tab};
+ghost use Rattle.pruning.specs.declared.candidates.Candidate.{Candidate};
+ghost use Rattle.pruning.specs.Candidates.{all, view, none, Framed};
+ghost use Rattle.extrema.specs.Errors.{curve_of};
+ghost use Rattle.extrema.specs.Candidates.{joined, candidates_for, Room};
+ghost use Rattle.extrema.specs.Batches.{Behind};
 
-use crate::errors;
-use bands::{Plan, Symmetry};
-use numbers::{Count, Verdict};
+use crate::Curve;
+use numbers::Refusal;
 use pruning::Candidate;
 
 // Candidates with these errors behind the first n.
@@ -14,8 +16,7 @@ pub(crate) fn put_all(places: &[f64], e: &[f64], words: &mut [u64], n: usize)
     requires { Room (length places.now) n words.old × (length e.now ≡ length places.now) × (all_finite places.now ≡ true) × (all_finite e.now ≡ true) }
     ensures { (view words.new (n + length places.now) ≡ view words.old n ++ joined places.now e.now) × Framed (n + length places.now) words.old words.new }
 {
-    let mut i = 0;
-    while i < places.len() {
+    for i in 0..places.len() {
         pruning::put_candidate(
             words,
             n + i,
@@ -24,65 +25,36 @@ pub(crate) fn put_all(places: &[f64], e: &[f64], words: &mut [u64], n: usize)
                 error: e[i],
             },
         );
-        i += 1;
     }
 }
 
-// Candidates at the places, of which there are some, behind the first n; `e` is for their errors.
-fn add_with(
-    plan: Plan,
-    symmetry: Symmetry,
-    odd: bool,
-    x: &[f64],
-    wk: &[f64],
-    yk: &[f64],
-    places: &[f64],
-    e: &mut [f64],
-    words: &mut [u64],
-    n: usize,
-) -> Count
-    requires { Room (length places.now) n words.old × (length e.old ≡ length places.now) × (1 ≤ length places.now) × (length places.now ≤ 17) }
-    ensures { Stage (length places.now) (candidates_for (curve plan symmetry odd x.now wk.now yk.now) places.now) n result words.old words.new }
+// What `part` takes of the candidates from i on, as many as there is room for.
+pub(crate) fn read_all<F: Fn(Candidate) -> f64>(words: &[u64], i: usize, out: &mut [f64], part: F)
+    requires { (i + length out.old ≤ length words.now / 2) × ((c : Candidate) → F.pre part c) }
+    ensures { (f : Candidate → Float) → ((c : Candidate) (x : Float) → F.post part c x → x ≡ f c) → out.new ≡ tab (λ k. f (get_or (all words.now) (i + k) none)) (length out.old) 0 }
 {
-    match errors::errors(plan, symmetry, odd, x, wk, yk, places, e) {
-        Verdict::Taken => {
-            put_all(places, e, words, n);
-            Count::Of(n + places.len())
-        }
-        Verdict::Refused(why) => Count::Refused(why),
+    for k in 0..out.len() {
+        out[k] = part(pruning::candidate_at(words, i + k));
     }
 }
 
 // A candidate at each of the places, behind the first n.
+#[tactic(auto, using(crate::proofs::CandidateLaws::candidates_stop, crate::proofs::BatchStages::behind_stop))]
 pub(crate) fn add_candidates(
-    plan: Plan,
-    symmetry: Symmetry,
-    odd: bool,
-    x: &[f64],
-    wk: &[f64],
-    yk: &[f64],
+    curve: Curve,
     places: &[f64],
     words: &mut [u64],
     n: usize,
-) -> Count
+) -> Result<usize, Refusal>
     requires { Room (length places.now) n words.old × (length places.now ≤ 17) }
-    ensures { Stage (length places.now) (candidates_for (curve plan symmetry odd x.now wk.now yk.now) places.now) n result words.old words.new }
+    ensures { Behind (length places.now) (candidates_for (curve_of curve.entry) places.now) n result words.old words.new }
 {
-    let m = places.len();
-    if m == 0 {
-        return Count::Of(n);
+    if places.is_empty() {
+        return Ok(n);
     }
     let mut e = [0.0; 17];
-    add_with(
-        plan,
-        symmetry,
-        odd,
-        x,
-        wk,
-        yk,
-        places,
-        &mut e[..m],
-        words,
-        n,
-    )
+    let e = &mut e[..places.len()];
+    curve.errors(places, e)?;
+    put_all(places, e, words, n);
+    Ok(n + places.len())
 }

@@ -1,334 +1,148 @@
 // The extrema of the weighted error that an exchange moves its points to (extrema.rs and barycentric.rs of pm-remez).
 #![tactic(auto)]
 
-ghost use Rattle.std.specs.Prelude.{◌≡◌, [], ◌+◌, ◌*◌, ◌/◌, ◌≤◌, length, take};
-ghost use Rattle.numbers.specs.Outcome.{bind, gave, sweep};
-ghost use Rattle.numbers.specs.Refusals.{Answers};
-ghost use Rattle.extrema.specs.Errors.{curve};
-ghost use Rattle.extrema.specs.Candidates.{Stage, Room};
-ghost use Rattle.extrema.specs.Proxy.{ends_of, inside_of};
-ghost use Rattle.extrema.specs.Batches.{ends_marked, inside_marked, Behind};
-ghost use Rattle.extrema.specs.Extrema.{collected, extrema_of, extrema_in, packed, Found, pruned_to};
+ghost use Rattle.std.specs.Prelude.{ℕ, Ok, ◌≡◌, [], ◌∷◌, ◌+◌, ◌*◌, ◌/◌, ◌≤◌, List, length, Float};
+ghost use Rattle.numbers.specs.Outcome.{Outcome, bind, gave, sweep};
+ghost use Rattle.numbers.specs.Refusals.{outcome_of, few};
+ghost use Rattle.fir_types.specs.declared.edges.Interval.{Interval};
+ghost use Rattle.pruning.specs.declared.candidates.Candidate.{Candidate};
+ghost use Rattle.extrema.specs.Errors.{curve_of};
+ghost use Rattle.extrema.specs.Candidates.{candidates_for, Stage, Room};
+ghost use Rattle.extrema.specs.Batches.{Finds, FindsAt, Puts, PutsAt, Behind};
+ghost use Rattle.extrema.specs.Extrema.{collected, extrema_in, packed, Found, pruned_to};
 
 mod batches;
 mod candidates;
-mod errors;
+mod curve;
 mod proxy;
 mod pruned;
 
-use bands::{Plan, Symmetry};
+pub use curve::Curve;
 use fir_types::Interval;
-use numbers::{Count, Refusal, Verdict};
+use listed::Listed;
+use numbers::Refusal;
 use pruning::Candidate;
 use subdivision::Intervals;
 
 // The candidates that are kept, in rising x.
-#[derive(Clone, Copy)]
-pub struct Kept {
-    pub list: [Candidate; 65],
-    pub count: usize,
-}
-
-// What is kept, or nothing and why.
-#[derive(Clone, Copy)]
-pub struct Extrema {
-    pub kept: Kept,
-    pub verdict: Verdict,
-}
+pub type Kept = Listed<Candidate, 65>;
 
 // Two words for each of the 1,241 candidates that there may be.
 pub const WORDS: usize = 2482;
 
-// The ends of all subintervals, one after another: what is refused first is found here.
-fn add_each_ends(
-    plan: Plan,
-    symmetry: Symmetry,
-    odd: bool,
-    x: &[f64],
-    wk: &[f64],
-    yk: &[f64],
-    list: [Interval; 73],
-    count: usize,
-    words: &mut [u64],
-) -> Count
-    requires { (count ≤ 73) × Room (2 * count) 0 words.old }
-    ensures { Stage (2 * count) (sweep (ends_of (curve plan symmetry odd x.now wk.now yk.now)) (take count list)) 0 result words.old words.new }
+// The places that `find` finds in each subinterval, at most MOST, put behind the first `start` candidates.
+fn put_each<
+    const MOST: usize,
+    F: Fn(Interval, &mut [f64]) -> Result<usize, Refusal>,
+    P: Fn(&[f64], &mut [u64], usize) -> Result<usize, Refusal>,
+>(list: &[Interval], find: &F, put: P, words: &mut [u64], start: usize) -> Result<usize, Refusal>
+    requires room { Room (MOST * length list.now) start words.old }
+    requires finds { Finds MOST (F.pre find.now) (F.post find.now) }
+    requires puts { Puts MOST (P.pre put) (P.post put) }
+    ensures most { few result ≤ start + MOST * length list.now }
+    ensures least { (n : ℕ) → result ≡ Ok n → start ≤ n }
+    ensures swept { (place : Interval → Outcome (List Float)) (g : List Float → List Candidate → Outcome (List Candidate)) → FindsAt MOST (F.post find.now) place → PutsAt MOST (P.post put) g → Behind (MOST * length list.now) (sweep (λ v l. bind (place v) (λ p. g p l)) list.now) start result words.old words.new }
 {
-    let mut n: usize = 0;
-    let mut i: usize = 0;
-    while i < count {
-        match proxy::add_ends(plan, symmetry, odd, x, wk, yk, list[i], words, n) {
-            Count::Of(m) => {
-                n = m;
-            }
-            Count::Refused(why) => {
-                return Count::Refused(why);
-            }
-        }
-        i += 1;
-    }
-    Count::Of(n)
-}
-
-// The ends' places alone.
-fn mark_all_ends(list: [Interval; 73], count: usize, words: &mut [u64]) -> Count
-    requires { (count ≤ 73) × Room (2 * count) 0 words.old }
-    ensures { Behind (2 * count) (sweep ends_marked (take count list)) 0 result words.old words.new }
-{
-    let mut n: usize = 0;
-    let mut i: usize = 0;
-    while i < count {
-        match proxy::mark_ends(list[i], words, n) {
-            Count::Of(m) => {
-                n = m;
-            }
-            Count::Refused(why) => {
-                return Count::Refused(why);
-            }
-        }
-        i += 1;
-    }
-    Count::Of(n)
-}
-
-// The ends of all subintervals: first all places, then the errors there.
-fn add_all_ends(
-    plan: Plan,
-    symmetry: Symmetry,
-    odd: bool,
-    x: &[f64],
-    wk: &[f64],
-    yk: &[f64],
-    list: [Interval; 73],
-    count: usize,
-    words: &mut [u64],
-) -> Count
-    requires { (count ≤ 73) × Room (2 * count) 0 words.old }
-    ensures { Stage (2 * count) (sweep (ends_of (curve plan symmetry odd x.now wk.now yk.now)) (take count list)) 0 result words.old words.new }
-{
-    match mark_all_ends(list, count, words) {
-        Count::Of(n) => {
-            if batches::settle_all(plan, symmetry, odd, x, wk, yk, words, 0, n) {
-                Count::Of(n)
-            } else {
-                add_each_ends(plan, symmetry, odd, x, wk, yk, list, count, words)
-            }
-        }
-        Count::Refused(_) => add_each_ends(plan, symmetry, odd, x, wk, yk, list, count, words),
-    }
-}
-
-// The extrema inside each subinterval, behind the first `start` candidates: one subinterval after another.
-fn add_each_inside(
-    plan: Plan,
-    symmetry: Symmetry,
-    odd: bool,
-    x: &[f64],
-    wk: &[f64],
-    yk: &[f64],
-    nodes: &[f64],
-    list: [Interval; 73],
-    count: usize,
-    words: &mut [u64],
-    start: usize,
-) -> Count
-    requires { (count ≤ 73) × Room (15 * count) start words.old × (2 ≤ length nodes.now) × (length nodes.now ≤ 17) }
-    ensures { Stage (15 * count) (sweep (inside_of (curve plan symmetry odd x.now wk.now yk.now) nodes.now) (take count list)) start result words.old words.new }
-{
+    let mut places = [0.0; MOST];
     let mut n = start;
-    let mut i: usize = 0;
-    while i < count {
-        match proxy::add_inside(plan, symmetry, odd, x, wk, yk, nodes, list[i], words, n) {
-            Count::Of(m) => {
-                n = m;
-            }
-            Count::Refused(why) => {
-                return Count::Refused(why);
-            }
-        }
-        i += 1;
+    for &v in list {
+        let k = find(v, &mut places)?;
+        n = put(&places[..k], words, n)?;
     }
-    Count::Of(n)
+    Ok(n)
 }
 
-// Their places alone.
-fn mark_all_inside(
-    plan: Plan,
-    symmetry: Symmetry,
-    odd: bool,
-    x: &[f64],
-    wk: &[f64],
-    yk: &[f64],
-    nodes: &[f64],
-    list: [Interval; 73],
-    count: usize,
+// The candidates at those places: first all places, then the errors there; where something is refused, one subinterval after another,
+// so that what is refused first is told.
+fn add_each<const MOST: usize, F: Fn(Interval, &mut [f64]) -> Result<usize, Refusal>>(
+    curve: Curve,
+    list: &[Interval],
+    find: &F,
     words: &mut [u64],
     start: usize,
-) -> Count
-    requires { (count ≤ 73) × Room (15 * count) start words.old × (2 ≤ length nodes.now) × (length nodes.now ≤ 17) }
-    ensures { Behind (15 * count) (sweep (inside_marked (curve plan symmetry odd x.now wk.now yk.now) nodes.now) (take count list)) start result words.old words.new }
+) -> Result<usize, Refusal>
+    requires most { MOST ≤ 17 }
+    requires room { Room (MOST * length list.now) start words.old }
+    requires finds { Finds MOST (F.pre find.now) (F.post find.now) }
+    ensures { (place : Interval → Outcome (List Float)) → FindsAt MOST (F.post find.now) place → Stage (MOST * length list.now) (sweep (λ v l. bind (place v) (λ p. candidates_for (curve_of curve.entry) p l)) list.now) start result words.old words.new }
 {
-    let mut n = start;
-    let mut i: usize = 0;
-    while i < count {
-        match proxy::mark_inside(plan, symmetry, odd, x, wk, yk, nodes, list[i], words, n) {
-            Count::Of(m) => {
-                n = m;
-            }
-            Count::Refused(why) => {
-                return Count::Refused(why);
-            }
+    if let Ok(n) = put_each::<MOST, _, _>(list, find, batches::mark_places, words, start) {
+        if let Ok(()) = batches::settle_all(curve, words, start, n) {
+            return Ok(n);
         }
-        i += 1;
     }
-    Count::Of(n)
+    let add = |places: &[f64], words: &mut [u64], n: usize| {
+        candidates::add_candidates(curve, places, words, n)
+    };
+    put_each::<MOST, _, _>(list, find, add, words, start)
 }
 
-// The extrema inside each subinterval, behind the first `start` candidates: first all places, then the errors there.
-fn add_all_inside(
-    plan: Plan,
-    symmetry: Symmetry,
-    odd: bool,
-    x: &[f64],
-    wk: &[f64],
-    yk: &[f64],
-    nodes: &[f64],
-    list: [Interval; 73],
-    count: usize,
-    words: &mut [u64],
-    start: usize,
-) -> Count
-    requires { (count ≤ 73) × Room (15 * count) start words.old × (2 ≤ length nodes.now) × (length nodes.now ≤ 17) }
-    ensures { Stage (15 * count) (sweep (inside_of (curve plan symmetry odd x.now wk.now yk.now) nodes.now) (take count list)) start result words.old words.new }
+// Both ends of a subinterval.
+fn ends(v: Interval, out: &mut [f64]) -> Result<usize, Refusal>
+    requires { length out.old ≡ 2 }
+    ensures { (result ≡ Ok 2) × (out.new ≡ v.begin ∷ v.end ∷ []) }
 {
-    match mark_all_inside(
-        plan, symmetry, odd, x, wk, yk, nodes, list, count, words, start,
-    ) {
-        Count::Of(n) => {
-            if batches::settle_all(plan, symmetry, odd, x, wk, yk, words, start, n) {
-                Count::Of(n)
-            } else {
-                add_each_inside(
-                    plan, symmetry, odd, x, wk, yk, nodes, list, count, words, start,
-                )
-            }
-        }
-        Count::Refused(_) => {
-            add_each_inside(
-                plan, symmetry, odd, x, wk, yk, nodes, list, count, words, start,
-            )
-        }
-    }
+    out.copy_from_slice(&[v.begin, v.end]);
+    Ok(2)
 }
 
 // The candidates of all subintervals, sorted and pruned to n.
 fn collect(
-    plan: Plan,
-    symmetry: Symmetry,
-    odd: bool,
-    x: &[f64],
-    wk: &[f64],
-    yk: &[f64],
+    curve: Curve,
     nodes: &[f64],
-    list: [Interval; 73],
-    count: usize,
+    list: &[Interval],
     n: usize,
     words: &mut [u64],
-) -> Extrema
-    requires { (count ≤ 73) × (n ≤ 65) × (2482 ≤ length words.old) × (2 ≤ length nodes.now) × (length nodes.now ≤ 17) }
-    ensures { Answers (packed []) (bind (bind (collected (curve plan symmetry odd x.now wk.now yk.now) nodes.now (take count list)) (pruned_to n)) (λ l. gave (packed l))) result.verdict result.kept }
+) -> Result<Kept, Refusal>
+    requires { (length list.now ≤ 73) × (n ≤ 65) × (2482 ≤ length words.old) × (2 ≤ length nodes.now) × (length nodes.now ≤ 17) }
+    ensures { outcome_of result ≡ bind (bind (collected (curve_of curve.entry) nodes.now list.now) (pruned_to n)) (λ l. gave (packed l)) }
 {
-    match add_all_ends(plan, symmetry, odd, x, wk, yk, list, count, words) {
-        Count::Of(k) => match add_all_inside(
-            plan, symmetry, odd, x, wk, yk, nodes, list, count, words, k,
-        ) {
-            Count::Of(m) => pruned::prune_to(words, m, n),
-            Count::Refused(why) => pruned::refused(why),
-        },
-        Count::Refused(why) => pruned::refused(why),
-    }
+    let k = add_each::<2, _>(curve, list, &ends, words, 0)?;
+    let inside = |v: Interval, out: &mut [f64]| proxy::places_inside(curve, nodes, v, out);
+    let m = add_each::<15, _>(curve, list, &inside, words, k)?;
+    pruned::prune_to(words, m, n)
 }
 
+#[tactic(auto, unfolding(crate::specs::Extrema::extrema_in))]
 fn search(
-    plan: Plan,
-    symmetry: Symmetry,
-    odd: bool,
-    x: &[f64],
-    wk: &[f64],
-    yk: &[f64],
+    curve: Curve,
     intervals: Intervals,
     degree: usize,
     n: usize,
     words: &mut [u64],
-) -> Extrema
+) -> Result<Kept, Refusal>
     requires { 2482 ≤ length words.old }
-    ensures { Answers (packed []) (bind (extrema_in (curve plan symmetry odd x.now wk.now yk.now) intervals degree n) (λ l. gave (packed l))) result.verdict result.kept }
+    ensures { outcome_of result ≡ bind (extrema_in (curve_of curve.entry) intervals degree n) (λ l. gave (packed l)) }
 {
-    let list = intervals.list;
-    let count = intervals.count;
-    if 73 < count {
-        return pruned::refused(Refusal::Lists);
+    if 73 < intervals.count || 65 < n {
+        return Err(Refusal::Lists);
     }
-    if 65 < n {
-        return pruned::refused(Refusal::Lists);
+    if degree < 2 || 16 < degree {
+        return Err(Refusal::Request);
     }
-    if degree < 2 {
-        return pruned::refused(Refusal::Request);
-    }
-    if 16 < degree {
-        return pruned::refused(Refusal::Request);
-    }
-    let m = degree + 1;
     let mut nodes = [0.0; 17];
-    match chebyshev::chebyshev_nodes(degree, &mut nodes[..m]) {
-        Verdict::Taken => collect(
-            plan,
-            symmetry,
-            odd,
-            x,
-            wk,
-            yk,
-            &nodes[..m],
-            list,
-            count,
-            n,
-            words,
-        ),
-        Verdict::Refused(why) => pruned::refused(why),
-    }
+    let nodes = &mut nodes[..degree + 1];
+    chebyshev::chebyshev_nodes(degree, nodes)?;
+    collect(curve, nodes, &intervals.list[..intervals.count], n, words)
 }
 
 // The n extrema in the subintervals that the exchange goes on with: candidates in rising x with errors of alternating sign. The plan is
 // one that is known to hold; of another, errors are what its lookup gives. The first 2,482 words are worked in, and zero afterwards.
+#[tactic(auto, unfolding(crate::specs::Extrema::extrema_for))]
 pub fn find_extrema(
-    plan: Plan,
-    symmetry: Symmetry,
-    odd: bool,
-    x: &[f64],
-    wk: &[f64],
-    yk: &[f64],
+    curve: Curve,
     intervals: Intervals,
     degree: usize,
     n: usize,
     words: &mut [u64],
-) -> Extrema
-    ensures { Found (curve plan symmetry odd x.now wk.now yk.now) intervals degree n result words.old words.new }
+) -> Result<Kept, Refusal>
+    ensures { Found (curve_of curve.entry) intervals degree n result words.old words.new }
 {
     if words.len() < WORDS {
-        return pruned::refused(Refusal::Room);
+        return Err(Refusal::Room);
     }
-    let r = search(
-        plan,
-        symmetry,
-        odd,
-        x,
-        wk,
-        yk,
-        intervals,
-        degree,
-        n,
-        &mut words[..2482],
-    );
-    numbers::wipe(&mut words[..2482]);
-    r
+    let words = &mut words[..WORDS];
+    let found = search(curve, intervals, degree, n, words);
+    numbers::wipe(words);
+    found
 }

@@ -22,7 +22,7 @@ use Rattle.barycentric.specs.Delta.{delta_for}
 use Rattle.barycentric.specs.Abscissas.{abscissas_for}
 use Rattle.barycentric.proofs.Lengths.{weights-length, abscissas_length}
 use Rattle.barycentric.proofs.Given.{weights_given, delta_given, abscissas_given}
-use Rattle.fir_types.specs.declared.edges.Edges.{Edges}
+use Rattle.fir_types.specs.Edges.{Edges}
 use Rattle.fir_types.specs.declared.edges.Interval.{Interval}
 use Rattle.fir_types.specs.Adjusted.{adjusted_desired}
 use Rattle.fir_types.specs.Edges.{packed, adjusted_for}

@@ -1,4 +1,5 @@
-pub mod Laws
+pub mod ArrayLaws
+pub mod EveryLaws
 pub mod PlaceLaws
 pub mod RequestLaws
 pub mod AnswerLaws

@@ -20,7 +20,7 @@ use Rattle.barycentric.specs.Abscissas.{abscissas_for}
 use Rattle.barycentric.proofs.Lengths.{weights-length}
 use Rattle.barycentric.proofs.Given.{weights_given}
 use Rattle.barycentric.proofs.Refused.{weights_refuse, delta_refuses, abscissas_refuse}
-use Rattle.fir_types.specs.declared.edges.Edges.{Edges}
+use Rattle.fir_types.specs.Edges.{Edges}
 use Rattle.fir_types.specs.declared.edges.Interval.{Interval}
 use Rattle.fir_types.specs.Adjusted.{adjusted_desired, adjusted_weight}
 use Rattle.fir_types.specs.Edges.{packed, adjusted_for}

@@ -1,12 +1,17 @@
--- No second answer fits the contract of the constructor. Assumes nothing.
-use mathlib.Core.Path.{◌≡◌, sym, ◌∙◌}
-use Rattle.numbers.proofs.Unique.{verdict_unique}
+-- No second answer fits the contract of the constructor, nor any other that settles a result's outcome. Assumes nothing.
+use Rattle.std.specs.Prelude.{Result, Ok, Err}
+use mathlib.Core.Path.{◌≡◌, sym, ap, ◌∙◌}
+use Rattle.numbers.specs.declared.Refusal.{Refusal}
+use Rattle.numbers.specs.Refusals.{outcome_of}
+use Rattle.numbers.proofs.Unique.{refusal_unique}
 use Rattle.fields.specs.declared.request.Request.{Request}
-use Rattle.fields.specs.declared.request.Accepted.{Accepted}
 use Rattle.fields.specs.Request.{Constructed}
 
-pub constructed_unique : {r : Request} {a b : Accepted} → Constructed r a → Constructed r b → a ≡ b
-constructed_unique {r} {a} {b} s t =
-    let q = s.request ∙ sym t.request in
-    let v = verdict_unique a.verdict b.verdict (tt {0}) (tt {0}) (s.is ∙ sym t.is) in
-    (λ i. record { request = q i; verdict = v i })
+pub outcome_unique : {A : Type 0} (a b : Result A Refusal) → outcome_of a ≡ outcome_of b → a ≡ b
+outcome_unique (Ok x) (Ok y) e = ap Ok (cc)
+outcome_unique (Ok x) (Err q) e = cc
+outcome_unique (Err p) (Ok y) e = cc
+outcome_unique (Err p) (Err q) e = ap Err (refusal_unique p q (cc))
+
+pub constructed_unique : (r : Request) {a b : Result Request Refusal} → Constructed r a → Constructed r b → a ≡ b
+constructed_unique r {a} {b} s t = outcome_unique a b (s ∙ sym t)

@@ -3,7 +3,7 @@ use Rattle.std.specs.Prelude.{ℕ, Bool, not, ◌&&◌, ◌||◌, cond, List, le
 use Rattle.std.specs.Float.Ieee.{eq, le}
 use Rattle.numbers.specs.Floats.{zero64, one64, sign}
 use Rattle.numbers.specs.Outcome.{Outcome, gave, bind, unless}
-use Rattle.fir_types.specs.declared.edges.Edges.{Edges}
+use Rattle.fir_types.specs.Edges.{Edges}
 use Rattle.fir_types.specs.Edges.{packed}
 use Rattle.fields.specs.declared.request.Request.{Request}
 use Rattle.fields.specs.declared.interpolant.Interpolant.{Interpolant}

@@ -1,20 +1,20 @@
 -- What opening and restoring work out from a request and its points: frequencies, points, weights, delta and abscissas, in that order;
 -- 9 if one fails. Nothing of it is kept in a job.
-use Rattle.std.specs.Prelude.{ℕ, ◌+◌, ◌-◌, ◌≤◌, ◌≡◌, Bool, List, [], ◌++◌, map, length, get_or, replicate, Float}
+use Rattle.std.specs.Prelude.{Result, Ok, Err}
+use Rattle.numbers.specs.declared.Refusal.{Refusal}
+use Rattle.std.specs.Prelude.{ℕ, ◌+◌, ◌-◌, ◌≤◌, ◌≡◌, Bool, List, ◌++◌, map, length, get_or, replicate, Float}
 use Rattle.std.specs.Float.{nan}
 use Rattle.std.specs.Float.Ieee.{lt}
 use Rattle.numbers.specs.Floats.{zero64}
 use Rattle.numbers.specs.Loops.{every}
 use Rattle.numbers.specs.Outcome.{Outcome, refused, gave, bind, unless, gather, needed_list_of}
 use Rattle.numbers.specs.Refusals.{refusal_number}
-use Rattle.numbers.specs.declared.Scalar.{Scalar}
-use Rattle.numbers.specs.declared.Scalar.TheVariants as scalar
 use Rattle.angles.specs.Turns.{cosine_of}
 use Rattle.angles.specs.Arccosine.{arccosine_of}
 use Rattle.barycentric.specs.Weights.{weights_for}
 use Rattle.barycentric.specs.Delta.{delta_for}
 use Rattle.barycentric.specs.Abscissas.{abscissas_for}
-use Rattle.fir_types.specs.declared.edges.Edges.{Edges}
+use Rattle.fir_types.specs.Edges.{Edges}
 use Rattle.fir_types.specs.Edges.{in_radians}
 use Rattle.fir_types.specs.Adjusted.{adjusted_desired, adjusted_weight}
 use Rattle.subdivision.specs.First.{first_for}
@@ -92,13 +92,10 @@ answered i =
       delta = i.delta;
     }
 
-abbrev pub nothing : Interpolant
-nothing = answered (interpolation (places [] []) [] [] zero64)
-
 -- ---- in the code: lent lists of one length, and delta as the answer
-abbrev pub interpolation_of : Scalar → Places → List Float → List Float → Outcome Interpolation
-interpolation_of (scalar.Value delta) p w y = gave (interpolation p w y delta)
-interpolation_of (scalar.Refused q) p w y = refused (refusal_number q)
+abbrev pub interpolation_of : Result Float Refusal → Places → List Float → List Float → Outcome Interpolation
+interpolation_of (Ok delta) p w y = gave (interpolation p w y delta)
+interpolation_of (Err q) p w y = refused (refusal_number q)
 
 pub record Alike (n : ℕ) (f x w y : List Float) : Type 0 where
   pub few : n ≤ 65

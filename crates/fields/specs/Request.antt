@@ -1,18 +1,19 @@
 -- A request and what opening asks of it before it works out any point: refusals 5, 6, 7 and 8, in that order.
-use Rattle.std.specs.Prelude.{ℕ, ◌+◌, ◌≡◌, Bool, ◌&&◌, List, leb, Float}
+use Rattle.std.specs.Prelude.{ℕ, ◌+◌, ◌≡◌, Bool, ◌&&◌, List, leb, Float, Result}
 use Rattle.std.specs.Float.Ieee.{le}
 use Rattle.numbers.specs.Floats.{zero64, one64}
 use Rattle.numbers.specs.Outcome.{Outcome, gave, bind, unless}
-use Rattle.numbers.specs.Refusals.{verdict_of}
+use Rattle.numbers.specs.declared.Refusal.{Refusal}
+use Rattle.numbers.specs.Refusals.{outcome_of}
 use Rattle.bands.specs.declared.Symmetry.{Symmetry}
 use Rattle.bands.specs.declared.Plan.{Plan}
 use Rattle.chebyshev.specs.Nodes.{least_degree, most_degree}
 use Rattle.fir_types.specs.declared.edges.Interval.{Interval}
+use Rattle.fir_types.specs.declared.target.Target.{Target}
 use Rattle.fir_types.specs.Kinds.{is_odd, functions, taps_in_range}
 use Rattle.fir_types.specs.Realizable.{realizable_for}
 use Rattle.fir_types.specs.Edges.{adjusted_for}
 use Rattle.fields.specs.declared.request.Request.{Request}
-use Rattle.fields.specs.declared.request.Accepted.{Accepted}
 
 abbrev pub most_exchanges : ℕ
 most_exchanges = 100
@@ -22,6 +23,10 @@ odd_taps r = is_odd r.taps
 
 abbrev pub functions_of : Request → ℕ
 functions_of r = functions r.taps r.symmetry
+
+-- what is wanted of the filter: the plan and the type
+abbrev pub target_of : Request → Target
+target_of r = record { plan = r.plan; symmetry = r.symmetry; odd = odd_taps r }
 
 -- points: functions + 1
 abbrev pub points_of : Request → ℕ
@@ -47,7 +52,6 @@ abbrev pub request_of : ℕ → Symmetry → ℕ → ℕ → Float → Plan → 
 request_of taps symmetry degree exchanges threshold plan =
     record { taps = taps; symmetry = symmetry; degree = degree; exchanges = exchanges; threshold = threshold; plan = plan }
 
--- The contract of the constructor: the request as it was given, and whether it is accepted.
-pub record Constructed (r : Request) (a : Accepted) : Type 0 where
-  pub request : a.request ≡ r
-  pub is : verdict_of a.verdict (tt {0}) ≡ bind (request_for r) (λ _. gave tt)
+-- The contract of the constructor: the request as it was given, where it is accepted.
+abbrev pub Constructed : Request → Result Request Refusal → Type 0
+Constructed r a = outcome_of a ≡ bind (request_for r) (λ _. gave r)

@@ -7,5 +7,5 @@ mod interpolant;
 mod request;
 
 pub use held::{Fields, do_counts_hold};
-pub use interpolant::{Interpolant, Interpolated, radians_of};
-pub use request::{Accepted, Request};
+pub use interpolant::{Interpolant, radians_of};
+pub use request::Request;

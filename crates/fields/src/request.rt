@@ -1,11 +1,11 @@
-ghost use Rattle.std.specs.Prelude.{◌≡◌, ◌&&◌, [], ◌≤◌, leb};
+ghost use Rattle.std.specs.Prelude.{◌≡◌, ◌&&◌, leb};
 ghost use Rattle.chebyshev.specs.Nodes.{least_degree, most_degree};
-ghost use Rattle.fir_types.specs.Edges.{packed, Edged};
-ghost use Rattle.fields.specs.Request.{threshold_holds, in_range, request_of, request_for, functions_of, Constructed};
+ghost use Rattle.fir_types.specs.Edges.{Edged};
+ghost use Rattle.fields.specs.Request.{threshold_holds, in_range, request_of, request_for, functions_of, target_of, Constructed};
 
 use bands::{Plan, Symmetry};
-use fir_types::{Adjusted, Edges, Interval};
-use numbers::{Refusal, Verdict};
+use fir_types::{Edges, Target};
+use numbers::Refusal;
 
 // What a filter is designed from.
 #[derive(Clone, Copy)]
@@ -18,42 +18,16 @@ pub struct Request {
     pub plan: Plan,
 }
 
-// A request as it was given, and whether it is accepted.
-#[derive(Clone, Copy)]
-pub struct Accepted {
-    pub request: Request,
-    pub verdict: Verdict,
-}
-
 fn is_threshold(t: f64) -> bool
     ensures { result ≡ threshold_holds t }
 {
-    if 0.0 <= t { t <= 1.0 } else { false }
+    0.0 <= t && t <= 1.0
 }
 
 fn is_degree(n: usize) -> bool
     ensures { result ≡ (leb least_degree n && leb n most_degree) }
 {
-    if Request::LEAST_DEGREE <= n {
-        n <= Request::DEGREE
-    } else {
-        false
-    }
-}
-
-fn refused(why: Refusal) -> Adjusted
-    ensures { (result.edges ≡ packed []) × (result.verdict ≡ Verdict.Refused why) }
-{
-    Adjusted {
-        edges: Edges {
-            list: [Interval {
-                begin: 0.0,
-                end: 0.0,
-            }; 8],
-            count: 0,
-        },
-        verdict: Verdict::Refused(why),
-    }
+    Request::LEAST_DEGREE <= n && n <= Request::DEGREE
 }
 
 impl Request {
@@ -68,47 +42,48 @@ impl Request {
     // As many exchanges as may be allowed.
     pub const EXCHANGES: usize = 100;
 
+    #[tactic(auto, unfolding(crate::specs::Request::in_range))]
     fn is_in_range(self) -> bool
         ensures { result ≡ in_range self }
     {
-        let symmetry = self.symmetry;
-        if !fir_types::are_taps_in_range(self.taps, symmetry) {
-            return false;
-        }
-        if !is_degree(self.degree) {
-            return false;
-        }
-        if Request::EXCHANGES < self.exchanges {
-            return false;
-        }
-        is_threshold(self.threshold)
+        fir_types::are_taps_in_range(self.taps, self.symmetry)
+            && is_degree(self.degree)
+            && self.exchanges <= Request::EXCHANGES
+            && is_threshold(self.threshold)
     }
 
     // How many cosine functions the taps have.
     pub fn functions(self) -> usize
         ensures { result ≡ functions_of self }
     {
-        let symmetry = self.symmetry;
-        fir_types::functions_of(self.taps, symmetry)
+        fir_types::functions_of(self.taps, self.symmetry)
+    }
+
+    // What is wanted of the filter: the plan and the type.
+    pub fn target(self) -> Target
+        ensures { result ≡ target_of self }
+    {
+        Target {
+            plan: self.plan,
+            symmetry: self.symmetry,
+            odd: fir_types::is_odd(self.taps),
+        }
     }
 
     // The bands as they are left by the edge adjustment, in cycles per sample: refusals 5 to 8.
-    pub fn bands(self) -> Adjusted
+    #[tactic(auto, unfolding(crate::specs::Request::request_for))]
+    pub fn bands(self) -> Result<Edges, Refusal>
         ensures { Edged (request_for self) result }
     {
         if !self.is_in_range() {
-            return refused(Refusal::Request);
+            return Err(Refusal::Request);
         }
-        let plan = self.plan;
-        let symmetry = self.symmetry;
-        let odd = fir_types::is_odd(self.taps);
-        match fir_types::check_response(plan, symmetry, odd) {
-            Verdict::Taken => fir_types::adjust_bands(plan, symmetry, odd),
-            Verdict::Refused(why) => refused(why),
-        }
+        let target = self.target();
+        target.check_response()?;
+        target.adjust_bands()
     }
 
-    // A request, and whether it is accepted: 5, 6, 7, 8 in that order.
+    // A request that is accepted: refusals 5, 6, 7, 8 in that order.
     pub fn new(
         taps: usize,
         symmetry: Symmetry,
@@ -116,7 +91,7 @@ impl Request {
         exchanges: usize,
         threshold: f64,
         plan: Plan,
-    ) -> Accepted
+    ) -> Result<Request, Refusal>
         ensures { Constructed (request_of taps symmetry degree exchanges threshold plan) result }
     {
         let request = Request {
@@ -127,8 +102,7 @@ impl Request {
             threshold,
             plan,
         };
-        let b = request.bands();
-        let verdict = b.verdict;
-        Accepted { request, verdict }
+        request.bands()?;
+        Ok(request)
     }
 }

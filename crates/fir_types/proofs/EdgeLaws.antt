@@ -1,20 +1,17 @@
 -- Intervals kept one behind the other are the list of those of positive length, and how many there can be. Assumes nothing.
 use Prim.Native.Nat.{ℕ, zero, suc, ◌+◌, ◌<◌, ◌≤◌}
-use mathlib.Core.Path.{◌≡◌, refl, sym, ap, ◌∙◌}
+use mathlib.Core.Path.{◌≡◌, ap, ◌∙◌}
 use mathlib.Core.Bool.{Bool, true, false, cond}
 use mathlib.Core.List.{List, [], ◌∷◌, ◌++◌, append_assoc, append-nil}
 use native.Mathlib.Omega.{arith}
 use lib.ListN.{length, set, length-append}
-use borrow.Author.Tests.{lt-ltb, le-ltb, ltb-true}
+use borrow.Author.Tests.{ltb-true}
 use lib.Dec.{ltb}
 use lib.Ieee.{lt}
-use Rattle.numbers.specs.Outcome.{Outcome, refused, gave, unless}
-use Rattle.numbers.specs.Refusals.{refusal_number}
-use Rattle.numbers.specs.declared.Refusal.{Refusal}
-use Rattle.numbers.specs.declared.Verdict.TheVariants as verdict
+use Rattle.numbers.specs.Outcome.{gave, unless}
 use Rattle.numbers.specs.Floats.{zero64}
 use Rattle.numbers.specs.Loops.{run}
-use Rattle.numbers.proofs.Fronts.{padded_more, length_more}
+use Rattle.listed.proofs.Laws.{listed_more}
 use Rattle.numbers.proofs.Given.{gave_same, unless_given}
 use Rattle.bands.specs.declared.Plan.{Plan}
 use Rattle.bands.specs.declared.Symmetry.{Symmetry}
@@ -22,11 +19,8 @@ use Rattle.bands.specs.Lookup.{band_of}
 use Rattle.bands.specs.Rules.{plan_holds}
 use Rattle.bands.proofs.Laws.{holds_most}
 use Rattle.fir_types.specs.declared.edges.Interval.{Interval}
-use Rattle.fir_types.specs.declared.edges.Edges.{Edges}
-use Rattle.fir_types.specs.Edges.{interval, moved, packed, answer_of, Edged, keep, kept, adjusted, adjusted_for}
-
-packed_more : (l : List Interval) (m : Interval) → length l < 8 → record { list = set (packed l).list (length l) m; count = length l + 1 } ≡ packed (l ++ (m ∷ []))
-packed_more l m h = (λ i. record { list = padded_more 8 (interval zero64 zero64) l m h i; count = sym (length_more l m) i })
+use Rattle.fir_types.specs.Edges.{Edges}
+use Rattle.fir_types.specs.Edges.{interval, moved, packed, keep, kept, adjusted, adjusted_for}
 
 -- n more intervals from i on
 pub keeping : (g : ℕ → Interval) (n i : ℕ) (l : List Interval) → length l + n ≤ 8 → run (λ i. keep (g i)) n i (packed l) ≡ packed (l ++ kept g n i)
@@ -46,7 +40,7 @@ keeping g (suc n) i l h =
 
     go : (t : Bool) → again (packed (l ++ (g i ∷ []))) ≡ packed ((l ++ (g i ∷ [])) ++ rest) → again (packed l) ≡ packed (l ++ rest)
         → again (cond t (record { list = set (packed l).list (length l) (g i); count = length l + 1 }) (packed l)) ≡ packed (l ++ cond t (g i ∷ rest) rest)
-    go true y n = ap again (packed_more l (g i) room) ∙ y ∙ ap packed (append_assoc l (g i ∷ []) rest)
+    go true y n = ap again (listed_more (interval zero64 zero64) 8 l (g i) room) ∙ y ∙ ap packed (append_assoc l (g i ∷ []) rest)
     go false y n = n
 
 -- at most one more
@@ -56,17 +50,6 @@ keep_count m e = go (lt m.begin m.end)
     go : (t : Bool) → (cond t (record { list = set e.list e.count m; count = e.count + 1 }) e).count ≤ e.count + 1
     go true = omega arith
     go false = omega arith
-
--- what adjusted bands come to as an answer
-pub edged : (l : List Interval) → Edged (unless (ltb 0 (length l)) 8 (gave l)) (answer_of (packed l))
-edged [] = record { is = refl; edges = refl }
-edged (x ∷ l) =
-    let z : ltb (suc (length l)) 1 ≡ false = le-ltb (suc (length l)) 1 (omega arith) in
-    let y : ltb 0 (suc (length l)) ≡ true = lt-ltb 0 (suc (length l)) (omega arith) in
-    rw (z, y) (record { is = refl; edges = refl })
-
-pub edged_none : (o : Outcome (List Interval)) (q : Refusal) → refused (refusal_number q) ≡ o → Edged o (record { edges = packed []; verdict = verdict.Refused q })
-edged_none o q e = rw (← e) (record { is = refl; edges = refl })
 
 -- no more bands are kept than there are
 kept_most : (g : ℕ → Interval) (n i : ℕ) → length (kept g n i) ≤ n

@@ -1,61 +1,42 @@
--- Each tap has its coefficients, and a list of taps has as many as were asked for. Assumes nothing.
-use Prim.Native.Nat.{ℕ, ◌-◌, ◌/◌, ◌%◌, ◌<◌, ◌≤◌}
-use mathlib.Core.Path.{◌≡◌, refl, sym}
-use mathlib.Core.Bool.{Bool, true, false, ◌&&◌}
-use mathlib.Core.List.{List, ◌++◌}
+-- A list of taps has as many as were asked for, and a tap of the left side is what the types have in common. Assumes nothing.
+use Prim.Native.Nat.{ℕ, zero, suc, ◌+◌, ◌-◌, ◌<◌, ◌≤◌}
+use mathlib.Core.Path.{◌≡◌, refl}
+use mathlib.Core.List.{List, append-nil}
 use native.Mathlib.Omega.{arith}
-use borrow.Author.Tests.{leb-true, eqb-true, eqb-false}
-use lib.Dec.{leb, eqb}
-use lib.ListN.{length, take, drop}
-use lib.Seq.{take_at}
+use native.Mathlib.Nat.{sub-zero}
+use borrow.Author.Tests.{le-ltb, ne_eqb}
+use lib.ListN.{length, drop_of_length-le}
 use lib.Ieee.{Float}
-use Rattle.numbers.proofs.Order.{and_1, and_2}
-use Rattle.numbers.proofs.LoopLaws.{length-tab}
+use Rattle.numbers.specs.Operations.{◌⊖◌}
+use Rattle.numbers.proofs.LoopLaws.{Going, put, fill_start, length-tab}
 use Rattle.bands.specs.declared.Symmetry.{Symmetry}
-use Rattle.bands.specs.declared.Symmetry.TheVariants.{Even, Odd}
-use Rattle.fir_types.specs.Kinds.{is_odd, functions, least_taps, least_functions, most_taps, taps_in_range}
-use Rattle.fir_types.specs.Taps.{Fitting, middle_of, sized_for, tap_at, taps_of}
-
-pub least_some : (s : Symmetry) (odd : Bool) (n : ℕ) → least_functions s odd ≤ n → 1 ≤ n
-least_some Even odd n h = omega arith
-least_some Odd true n h = omega arith
-least_some Odd false n h = omega arith
-
--- ---- the mirror image of a tap of the right side lies on the left one
-even_inside : (taps i : ℕ) → taps / 2 ≤ i → (taps % 2 ≡ 1 → ⊥) → i < taps → taps - 1 - i < taps / 2
-even_inside taps i h k l = omega arith
-
-odd_inside : (taps i : ℕ) → taps / 2 ≤ i → (i ≡ taps / 2 → ⊥) → i < taps → taps - 1 - i < taps / 2
-odd_inside taps i h k l = omega arith
-
-pub mirror_inside : (taps i : ℕ) → taps / 2 ≤ i → middle_of taps i ≡ false → i < taps → taps - 1 - i < taps / 2
-mirror_inside taps i h m l = go (eqb (taps % 2) 1) (eqb i (taps / 2)) refl refl m
-  where
-    go : (a b : Bool) → eqb (taps % 2) 1 ≡ a → eqb i (taps / 2) ≡ b → (a && b) ≡ false → taps - 1 - i < taps / 2
-    go true true p q e = absurd (let z : ◌≡◌ {A = Bool} true false = e in Rattle.numbers.proofs.Order.no (sym z))
-    go true false p q e = odd_inside taps i h (eqb-false i (taps / 2) q) l
-    go false b p q e = even_inside taps i h (eqb-false (taps % 2) 1 p) l
-
--- ---- coefficients as many as the functions of taps in range are enough
-functions_fit : (s : Symmetry) (taps : ℕ) (odd : Bool) → is_odd taps ≡ odd → least_taps taps s ≤ taps → Fitting s taps (functions taps s)
-functions_fit Even taps true o h = let k : taps % 2 ≡ 1 = eqb-true (taps % 2) 1 o in let l : 3 ≤ taps = rw o at h in rw o (record { half = omega arith; least = omega arith })
-functions_fit Even taps false o h = let l : 4 ≤ taps = rw o at h in rw o (record { half = omega arith; least = omega arith })
-functions_fit Odd taps true o h = let l : 7 ≤ taps = rw o at h in record { half = omega arith; least = rw o (omega arith) }
-functions_fit Odd taps false o h = let l : 4 ≤ taps = rw o at h in record { half = omega arith; least = rw o (omega arith) }
-
-pub sized_fitting : (s : Symmetry) (n taps room : ℕ) → sized_for n taps s room ≡ true → taps_in_range taps s ≡ true → Fitting s taps n
-sized_fitting s n taps room h r =
-    let e : n ≡ functions taps s = eqb-true n (functions taps s) (and_2 (leb 1 n && leb n 64) (eqb n (functions taps s)) (and_1 (leb 1 n && leb n 64 && eqb n (functions taps s)) (leb taps room) h)) in
-    rw e (functions_fit s taps (is_odd taps) refl (leb-true (least_taps taps s) taps (and_1 (leb (least_taps taps s) taps) (leb taps most_taps) r)))
-
-pub in_range_most : (s : Symmetry) (taps : ℕ) → taps_in_range taps s ≡ true → taps ≤ 128
-in_range_most s taps r = leb-true taps most_taps (and_2 (leb (least_taps taps s) taps) (leb taps most_taps) r)
+use Rattle.fir_types.specs.Taps.{tap_at, taps_of, even_taps_side, odd_odd_side, joined_side}
 
 -- ---- as many taps as were asked for
 pub length_taps : (s : Symmetry) (taps : ℕ) (a : List Float) → length (taps_of s taps a) ≡ taps
 unfolding taps_of
 length_taps s taps a = length-tab (tap_at s taps a) taps 0
 
--- the taps at the front of a longer list
-pub taps_front : (s : Symmetry) (taps : ℕ) (a h l : List Float) → l ≡ taps_of s taps a ++ drop taps h → take taps l ≡ taps_of s taps a
-taps_front s taps a h l e = rw e (take_at (taps_of s taps a) (drop taps h) taps (length_taps s taps a))
+-- a loop that writes them over a whole list
+pub taps_start : (s : Symmetry) (a o : List Float) → Going (put (tap_at s (length o) a)) (length o) 0 o (taps_of s (length o) a)
+unfolding taps_of
+taps_start s a o =
+    let h : length o ≤ length o = omega arith in
+    rw (drop_of_length-le o {i = length o} h, append-nil) at (fill_start (tap_at s (length o) a) (length o) o h)
+
+-- ---- a tap of the left side, by what the types have in common
+pub joined_even_taps : (by : Float → Float → Float) (a : List Float) (j : ℕ) → j < length a → joined_side by 1 a j ≡ even_taps_side by a j
+joined_even_taps by a zero h = rw sub-zero
+joined_even_taps by a (suc j) h =
+    let z : length a - 1 - suc j + 1 ≡ length a - suc j = omega arith in
+    let l : 1 ≤ suc j = omega arith in
+    let e : suc j ≡ 0 → ⊥ = λ (e : suc j ≡ 0). omega arith in
+    rw (le-ltb (suc j) 1 l, ne_eqb (suc j) 0 e, z)
+
+pub joined_odd_odd : (a : List Float) (j : ℕ) → j < length a → joined_side (λ x y. x ⊖ y) 2 a j ≡ odd_odd_side a j
+joined_odd_odd a zero h = refl
+joined_odd_odd a (suc zero) h = refl
+joined_odd_odd a (suc (suc j)) h =
+    let z : length a - 1 - suc (suc j) + 2 ≡ length a + 1 - suc (suc j) = omega arith in
+    let l : 2 ≤ suc (suc j) = omega arith in
+    rw (le-ltb (suc (suc j)) 2 l, z)

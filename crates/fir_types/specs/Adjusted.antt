@@ -13,18 +13,18 @@ use Rattle.bands.specs.Lookup.{desired_at, weight_at}
 use Rattle.bands.specs.Rules.{plan_holds}
 use Rattle.fir_types.specs.Kinds.{tau}
 
--- even symmetry with odd taps has no factor; the others cos (f / 2), sin (f / 2), sin f
+-- a value joined with the factor: even symmetry with odd taps has none; the others cos (f / 2), sin (f / 2), sin f
+abbrev pub adjusted_by : (Float → Float → Float) → Symmetry → Bool → Float → Float → Outcome Float
+adjusted_by by Even true f v = needed_of v
+adjusted_by by Even false f v = bind (cosine_of (half ⊗ f)) (λ c. needed_of (by v c))
+adjusted_by by Odd false f v = bind (sine_of (half ⊗ f)) (λ c. needed_of (by v c))
+adjusted_by by Odd true f v = bind (sine_of f) (λ c. needed_of (by v c))
+
 abbrev pub desired_in : Symmetry → Bool → Float → Float → Outcome Float
-desired_in Even true f d = needed_of d
-desired_in Even false f d = bind (cosine_of (half ⊗ f)) (λ c. needed_of (d ⊘ c))
-desired_in Odd false f d = bind (sine_of (half ⊗ f)) (λ c. needed_of (d ⊘ c))
-desired_in Odd true f d = bind (sine_of f) (λ c. needed_of (d ⊘ c))
+desired_in = adjusted_by (λ d c. d ⊘ c)
 
 abbrev pub weight_in : Symmetry → Bool → Float → Float → Outcome Float
-weight_in Even true f w = needed_of w
-weight_in Even false f w = bind (cosine_of (half ⊗ f)) (λ c. needed_of (w ⊗ c))
-weight_in Odd false f w = bind (sine_of (half ⊗ f)) (λ c. needed_of (w ⊗ c))
-weight_in Odd true f w = bind (sine_of f) (λ c. needed_of (w ⊗ c))
+weight_in = adjusted_by (λ w c. w ⊗ c)
 
 -- the table is read at f / TAU, in cycles per sample
 unfoldable pub adjusted_desired : Plan → Symmetry → Bool → Float → Outcome Float

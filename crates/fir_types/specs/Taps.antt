@@ -18,24 +18,31 @@ quarter = of_bits binary64 0x3fd0_0000_0000_0000
 abbrev pub entry : List Float → ℕ → Float
 entry a i = get_or a i nan
 
--- tap j of the left side, j = 0 outermost
-abbrev pub even_side : List Float → ℕ → Float
-even_side a j =
+-- tap j of the left side, j = 0 outermost; the two types with even taps join their coefficients by a sum and by a difference
+abbrev pub even_taps_side : (Float → Float → Float) → List Float → ℕ → Float
+even_taps_side by a j =
     let n = length a in
     cond (eqb j 0) (entry a (n - 1) ⊗ quarter)
-    (cond (eqb j (n - 1)) (entry a 0 ⊗ half ⊕ entry a 1 ⊗ quarter) (quarter ⊗ (entry a (n - 1 - j) ⊕ entry a (n - j))))
+    (cond (eqb j (n - 1)) (by (entry a 0 ⊗ half) (entry a 1 ⊗ quarter)) (quarter ⊗ by (entry a (n - 1 - j)) (entry a (n - j))))
+
+abbrev pub even_side : List Float → ℕ → Float
+even_side = even_taps_side (λ x y. x ⊕ y)
 
 abbrev pub odd_side : List Float → ℕ → Float
-odd_side a j =
-    let n = length a in
-    cond (eqb j 0) (entry a (n - 1) ⊗ quarter)
-    (cond (eqb j (n - 1)) (entry a 0 ⊗ half ⊖ entry a 1 ⊗ quarter) (quarter ⊗ (entry a (n - 1 - j) ⊖ entry a (n - j))))
+odd_side = even_taps_side (λ x y. x ⊖ y)
 
 abbrev pub odd_odd_side : List Float → ℕ → Float
 odd_odd_side a j =
     let n = length a in
     cond (ltb j 2) (entry a (n - 1 - j) ⊗ quarter)
     (cond (eqb j (n - 1)) (entry a 0 ⊗ half ⊖ entry a 2 ⊗ quarter) (quarter ⊗ (entry a (n - 1 - j) ⊖ entry a (n + 1 - j))))
+
+-- what the three have in common: coefficients m apart, joined by a sum or a difference; they are it where j is inside
+abbrev pub joined_side : (Float → Float → Float) → ℕ → List Float → ℕ → Float
+joined_side by m a j =
+    let n = length a in
+    cond (ltb j m) (entry a (n - 1 - j) ⊗ quarter)
+    (cond (eqb j (n - 1)) (by (entry a 0 ⊗ half) (entry a m ⊗ quarter)) (quarter ⊗ by (entry a (n - 1 - j)) (entry a (n - 1 - j + m))))
 
 abbrev pub side_tap : Symmetry → Bool → List Float → ℕ → Float
 side_tap Even true a j = entry a (length a - 1 - j) ⊗ half

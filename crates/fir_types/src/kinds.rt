@@ -1,25 +1,7 @@
 ghost use Rattle.std.specs.Prelude.{◌≡◌};
-ghost use Rattle.fir_types.specs.Kinds.{singular_zero, singular_nyquist, is_odd, functions, least_taps, taps_in_range};
+ghost use Rattle.fir_types.specs.Kinds.{is_odd, functions, least_taps, taps_in_range};
 
 use bands::Symmetry;
-
-pub fn is_singular_zero(symmetry: Symmetry) -> bool
-    ensures { result ≡ singular_zero symmetry }
-{
-    match symmetry {
-        Symmetry::Even => false,
-        Symmetry::Odd => true,
-    }
-}
-
-pub fn is_singular_nyquist(symmetry: Symmetry, odd: bool) -> bool
-    ensures { result ≡ singular_nyquist symmetry odd }
-{
-    match symmetry {
-        Symmetry::Even => !odd,
-        Symmetry::Odd => odd,
-    }
-}
 
 pub fn is_odd(taps: usize) -> bool
     ensures { result ≡ is_odd taps }
@@ -32,7 +14,7 @@ pub fn functions_of(taps: usize, symmetry: Symmetry) -> usize
     ensures { result ≡ functions taps symmetry }
 {
     match symmetry {
-        Symmetry::Even => if is_odd(taps) { taps / 2 + 1 } else { taps / 2 },
+        Symmetry::Even => taps.div_ceil(2),
         Symmetry::Odd => taps / 2,
     }
 }
@@ -40,9 +22,10 @@ pub fn functions_of(taps: usize, symmetry: Symmetry) -> usize
 fn least_taps(taps: usize, symmetry: Symmetry) -> usize
     ensures { result ≡ least_taps taps symmetry }
 {
-    match symmetry {
-        Symmetry::Even => if is_odd(taps) { 3 } else { 4 },
-        Symmetry::Odd => if is_odd(taps) { 7 } else { 4 },
+    match (symmetry, is_odd(taps)) {
+        (_, false) => 4,
+        (Symmetry::Even, true) => 3,
+        (Symmetry::Odd, true) => 7,
     }
 }
 
@@ -50,9 +33,5 @@ fn least_taps(taps: usize, symmetry: Symmetry) -> usize
 pub fn are_taps_in_range(taps: usize, symmetry: Symmetry) -> bool
     ensures { result ≡ taps_in_range taps symmetry }
 {
-    if least_taps(taps, symmetry) <= taps {
-        taps <= 128
-    } else {
-        false
-    }
+    least_taps(taps, symmetry) <= taps && taps <= 128
 }

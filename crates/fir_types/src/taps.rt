@@ -1,77 +1,38 @@
-ghost use Rattle.std.specs.Prelude.{◌≡◌, ◌<◌, ◌≤◌, ◌++◌, length, drop};
-ghost use Rattle.numbers.specs.Outcome.{needed_list_of};
+ghost use Rattle.std.specs.Prelude.{◌≡◌, ◌<◌, ◌≤◌, length, Float};
 ghost use Rattle.numbers.specs.Refusals.{Filled};
 ghost use Rattle.fir_types.specs.Kinds.{least_functions};
-ghost use Rattle.fir_types.specs.Taps.{entry, even_side, odd_side, odd_odd_side, side_tap, middle_tap, middle_of, mirrored, tap_at, taps_of, sized_for, taps_for, Fitting};
+ghost use Rattle.fir_types.specs.Taps.{joined_side, side_tap, middle_tap, mirrored, tap_at, taps_of, sized_for, taps_for, Fitting};
 
 use crate::kinds;
 use bands::Symmetry;
-use numbers::{Refusal, Verdict};
+use numbers::Refusal;
 
-fn at(a: &[f64], i: usize) -> f64
-    requires { i < length a.now }
-    ensures { result ≡ entry a.now i }
-{
-    a[i]
-}
-
-fn even_side(a: &[f64], j: usize) -> f64
-    requires { (2 ≤ length a.now) × (j < length a.now) }
-    ensures { result ≡ even_side a.now j }
+// Tap j of the left side, j = 0 outermost, from coefficients `step` apart, joined by their sum or their difference.
+fn joined<F: Fn(f64, f64) -> f64>(a: &[f64], j: usize, step: usize, by: F) -> f64
+    requires calls { F.IsAlwaysCallable by }
+    requires within { (step < length a.now) × (j < length a.now) }
+    ensures { (g : Float → Float → Float) → ((x y r : Float) → F.post by x y r → r ≡ g x y) → result ≡ joined_side g step a.now j }
 {
     let n = a.len();
-    if j == 0 {
-        return at(a, n - 1) * 0.25;
+    if j < step {
+        return a[n - 1 - j] * 0.25;
     }
     if j == n - 1 {
-        return at(a, 0) * 0.5 + at(a, 1) * 0.25;
+        return by(a[0] * 0.5, a[step] * 0.25);
     }
-    0.25 * (at(a, n - 1 - j) + at(a, n - j))
+    0.25 * by(a[n - 1 - j], a[n - 1 - j + step])
 }
 
-fn odd_side(a: &[f64], j: usize) -> f64
-    requires { (2 ≤ length a.now) × (j < length a.now) }
-    ensures { result ≡ odd_side a.now j }
-{
-    let n = a.len();
-    if j == 0 {
-        return at(a, n - 1) * 0.25;
-    }
-    if j == n - 1 {
-        return at(a, 0) * 0.5 - at(a, 1) * 0.25;
-    }
-    0.25 * (at(a, n - 1 - j) - at(a, n - j))
-}
-
-fn odd_odd_side(a: &[f64], j: usize) -> f64
-    requires { (3 ≤ length a.now) × (j < length a.now) }
-    ensures { result ≡ odd_odd_side a.now j }
-{
-    let n = a.len();
-    if j < 2 {
-        return at(a, n - 1 - j) * 0.25;
-    }
-    if j == n - 1 {
-        return at(a, 0) * 0.5 - at(a, 2) * 0.25;
-    }
-    0.25 * (at(a, n - 1 - j) - at(a, n + 1 - j))
-}
-
+// Kept: no plainer: no plan goes with a symmetry and a parity here, so they are no Target.
 fn side(symmetry: Symmetry, odd: bool, a: &[f64], j: usize) -> f64
     requires { (least_functions symmetry odd ≤ length a.now) × (j < length a.now) }
     ensures { result ≡ side_tap symmetry odd a.now j }
 {
-    match symmetry {
-        Symmetry::Even => if odd {
-            at(a, a.len() - 1 - j) * 0.5
-        } else {
-            even_side(a, j)
-        },
-        Symmetry::Odd => if odd {
-            odd_odd_side(a, j)
-        } else {
-            odd_side(a, j)
-        },
+    match (symmetry, odd) {
+        (Symmetry::Even, true) => a[a.len() - 1 - j] * 0.5,
+        (Symmetry::Even, false) => joined(a, j, 1, |x, y| x + y),
+        (Symmetry::Odd, false) => joined(a, j, 1, |x, y| x - y),
+        (Symmetry::Odd, true) => joined(a, j, 2, |x, y| x - y),
     }
 }
 
@@ -80,7 +41,7 @@ fn middle(symmetry: Symmetry, a: &[f64]) -> f64
     ensures { result ≡ middle_tap symmetry a.now }
 {
     match symmetry {
-        Symmetry::Even => at(a, 0),
+        Symmetry::Even => a[0],
         Symmetry::Odd => 0.0,
     }
 }
@@ -94,80 +55,56 @@ fn mirror(symmetry: Symmetry, t: f64) -> f64
     }
 }
 
-fn is_middle(taps: usize, i: usize) -> bool
-    ensures { result ≡ middle_of taps i }
-{
-    if kinds::is_odd(taps) {
-        i == taps / 2
-    } else {
-        false
-    }
-}
-
 fn tap(symmetry: Symmetry, taps: usize, a: &[f64], i: usize) -> f64
     requires { Fitting symmetry taps (length a.now) × (i < taps) }
     ensures { result ≡ tap_at symmetry taps a.now i }
 {
+    let odd = kinds::is_odd(taps);
     if i < taps / 2 {
-        return side(symmetry, kinds::is_odd(taps), a, i);
+        return side(symmetry, odd, a, i);
     }
-    if is_middle(taps, i) {
+    if odd && i == taps / 2 {
         return middle(symmetry, a);
     }
-    mirror(
-        symmetry,
-        side(symmetry, kinds::is_odd(taps), a, taps - 1 - i),
-    )
+    mirror(symmetry, side(symmetry, odd, a, taps - 1 - i))
 }
 
-fn taps_into(symmetry: Symmetry, taps: usize, a: &[f64], out: &mut [f64])
-    requires { Fitting symmetry taps (length a.now) × (taps ≤ length out.old) }
-    ensures { out.new ≡ taps_of symmetry taps a.now ++ drop taps out.old }
+#[tactic(auto, unfolding(crate::specs::Taps::taps_of))]
+fn taps_into(symmetry: Symmetry, a: &[f64], out: &mut [f64])
+    requires { Fitting symmetry (length out.old) (length a.now) }
+    ensures { out.new ≡ taps_of symmetry (length out.old) a.now }
 {
-    let mut i: usize = 0;
-    while i < taps {
-        out[i] = tap(symmetry, taps, a, i);
-        i += 1;
+    for i in 0..out.len() {
+        out[i] = tap(symmetry, out.len(), a, i);
     }
 }
 
 fn is_sized_for(n: usize, taps: usize, symmetry: Symmetry, room: usize) -> bool
     ensures { result ≡ sized_for n taps symmetry room }
 {
-    if n < 1 {
-        return false;
-    }
-    if 64 < n {
-        return false;
-    }
-    if n == kinds::functions_of(taps, symmetry) {
-        taps <= room
-    } else {
-        false
-    }
-}
-
-fn taps_from(ak: &[f64], taps: usize, symmetry: Symmetry, out: &mut [f64]) -> Verdict
-    requires { Fitting symmetry taps (length ak.now) × (taps ≤ 128) }
-    ensures { Filled (needed_list_of (taps_of symmetry taps ak.now) (length out.old)) taps result out.old out.new }
-{
-    let mut h = [0.0; 128];
-    taps_into(symmetry, taps, ak, &mut h);
-    numbers::needed_list(&h[..taps], out)
+    1 <= n && n <= 64 && n == kinds::functions_of(taps, symmetry) && taps <= room
 }
 
 // The taps of the coefficients, to the front of `out`.
-pub fn h_from_ak(ak: &[f64], taps: usize, symmetry: Symmetry, out: &mut [f64]) -> Verdict
+#[tactic(auto, unfolding(crate::specs::Taps::taps_for))]
+pub fn h_from_ak(
+    ak: &[f64],
+    taps: usize,
+    symmetry: Symmetry,
+    out: &mut [f64],
+) -> Result<(), Refusal>
     ensures { Filled (taps_for ak.now taps symmetry (length out.old)) taps result out.old out.new }
 {
     if !is_sized_for(ak.len(), taps, symmetry, out.len()) {
-        return Verdict::Refused(Refusal::Lists);
+        return Err(Refusal::Lists);
     }
     if !kinds::are_taps_in_range(taps, symmetry) {
-        return Verdict::Refused(Refusal::Request);
+        return Err(Refusal::Request);
     }
     if !numbers::all_finite(ak) {
-        return Verdict::Refused(Refusal::NotFinite);
+        return Err(Refusal::NotFinite);
     }
-    taps_from(ak, taps, symmetry, out)
+    let mut h = [0.0; 128];
+    taps_into(symmetry, ak, &mut h[..taps]);
+    numbers::needed_list(&h[..taps], out)
 }

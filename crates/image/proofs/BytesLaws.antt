@@ -1,14 +1,15 @@
 -- Numbers in bytes: read in halves, and written byte by byte. Assumes nothing.
-use Prim.Native.Nat.{ℕ, zero, suc, ◌+◌, ◌*◌, ◌/◌, ◌%◌, ◌-◌, ◌<◌, ◌≤◌}
-use mathlib.Core.Path.{◌≡◌, refl, sym, ap}
+use Prim.Native.Nat.{ℕ, zero, suc, ◌+◌, ◌*◌, ◌/◌, ◌%◌, ◌^◌, ◌<◌, ◌≤◌}
+use mathlib.Core.Path.{◌≡◌, refl, sym, ap, ◌∙◌}
 use mathlib.Core.Bool.{Bool, true, false, cond}
-use mathlib.Core.List.{List, [], ◌∷◌}
+use mathlib.Core.List.{List, [], ◌∷◌, append_assoc}
 use native.Mathlib.Omega.{arith}
-use native.Mathlib.Nat.{not-suc-le-zero}
-use native.Mathlib.Numerals.{sub-one}
+use native.Mathlib.Nat.{lt_of_lt_of_le, mul_comm, pow-succ', pow-le-pow_right, div-div-eq-div-mul}
 use lib.Dec.{eqb}
-use lib.ListN.{length, get_or}
-use lib.Seq.{take-nil, drop-nil}
+use lib.ListN.{length, get_or, take}
+use Rattle.std.specs.Int.{w64, byte_at, bytes_low_first, to_le_bytes}
+use lib.Seq.{take-nil, drop-nil, drop-drop, sets, sets-eq}
+use borrow.Rule.Slice.PartMut.{put_mid}
 use Rattle.bands.specs.declared.Symmetry.{Symmetry}
 use Rattle.fir_types.specs.Kinds.{functions}
 use Rattle.packing.proofs.Laws.{functions-few}
@@ -30,40 +31,42 @@ next_byte (x ∷ s) (suc i) k = next_byte s i k
 pub lowest : (s : List ℕ) (i j k : ℕ) → i + 1 ≡ j → number_at s i (suc k) ≡ get_or s i 0 + 256 * number_at s j k
 lowest s i j k e = let z : suc i ≡ j = omega arith in rw (← z) (next_byte s i k)
 
-pub one_is : (s : List ℕ) (i : ℕ) → number_at s i 1 ≡ get_or s i 0
+-- one more byte below those that are read
+pub read_none : (s : List ℕ) (j k : ℕ) → k ≡ 0 → 0 ≡ number_at s j k
 unfolding number_of
-one_is s i = let e = next_byte s i 0 in omega (arith, e)
+read_none s j k e = rw e refl
 
-pub two_is : (s : List ℕ) (i : ℕ) → number_at s i 2 ≡ number_at s i 1 + 256 * number_at s (i + 1) 1
-two_is s i = omega (arith, lowest s i (i + 1) 1 refl, one_is s i)
+pub read_more : (s : List ℕ) (i j k m n b : ℕ) → i + 1 ≡ j → m ≡ suc k → n ≡ number_at s j k → b ≡ get_or s i 0 → 256 * n + b ≡ number_at s i m
+read_more s i j k m n b e f g h = rw f (omega (arith, lowest s i j k e))
 
-pub four_is : (s : List ℕ) (i : ℕ) → number_at s i 4 ≡ number_at s i 2 + 65536 * number_at s (i + 2) 2
-four_is s i =
-    let e : i + 1 + 1 ≡ i + 2 = omega arith in
-    omega (arith, lowest s i (i + 1) 3 refl, lowest s (i + 1) (i + 2) 2 e, two_is s i, one_is s i, one_is s (i + 1))
+pub small_more : (k m n b : ℕ) → m ≡ suc k → n < 256 ^ k → b < 256 → 256 * n + b < 256 ^ m
+small_more k m n b e g h = rw (e, pow-succ' 256 k) (omega arith)
 
-pub eight_is : (s : List ℕ) (i : ℕ) → number_at s i 8 ≡ number_at s i 4 + 4294967296 * number_at s (i + 4) 4
-eight_is s i =
-    let b : i + 1 + 1 ≡ i + 2 = omega arith in
-    let c : i + 2 + 1 ≡ i + 3 = omega arith in
-    let d : i + 3 + 1 ≡ i + 4 = omega arith in
-    omega (
-      arith,
-      lowest s i (i + 1) 7 refl,
-      lowest s (i + 1) (i + 2) 6 b,
-      lowest s (i + 2) (i + 3) 5 c,
-      lowest s (i + 3) (i + 4) 4 d,
-      lowest s i (i + 1) 3 refl,
-      lowest s (i + 1) (i + 2) 2 b,
-      lowest s (i + 2) (i + 3) 1 c,
-      one_is s (i + 3),
-    )
+pub small_fits : (m n : ℕ) → m ≤ 8 → n < 256 ^ m → n < 2 ^ 64
+small_fits m n h l = lt_of_lt_of_le l (pow-le-pow_right (omega arith) h)
 
 -- ---- writing
-pub bytes_step : (k n : ℕ) → 0 < k → bytes_of k n ≡ n % 256 ∷ bytes_of (k - 1) (n / 256)
+-- what `to_le_bytes` has in front
+low_from : (k m i n : ℕ) → k ≤ m → take k (bytes_low_first i m n) ≡ bytes_of k (n / 256 ^ i)
 unfolding bytes_of
-bytes_step zero n h = absurd (not-suc-le-zero h)
-bytes_step (suc k) n h = ap (λ m. n % 256 ∷ bytes_of m (n / 256)) (sym (sub-one (suc k)))
+low_from zero m i n h = refl
+low_from (suc k) zero i n h = absurd (omega arith)
+low_from (suc k) (suc m) i n h =
+    let e : n / 256 ^ i / 256 ≡ n / 256 ^ suc i = div-div-eq-div-mul n (256 ^ i) 256 ∙ ap (λ d. n / d) (mul_comm (256 ^ i) 256 ∙ sym (pow-succ' 256 i)) in
+    (λ j. lowest_byte i n j ∷ (low_from k m (suc i) n (omega arith) ∙ ap (bytes_of k) (sym e)) j)
+  where
+    lowest_byte : (i n : ℕ) → byte_at i n ≡ n / 256 ^ i % 256
+    lowest_byte zero n = omega arith
+    lowest_byte (suc i) n = refl
+
+pub low_bytes : (k n : ℕ) → k ≤ 8 → take k (to_le_bytes w64 n) ≡ bytes_of k n
+low_bytes k n h = let z : n / 256 ^ 0 ≡ n = omega arith in low_from k 8 0 n h ∙ ap (bytes_of k) z
+
+-- a part of a list that is overwritten
+pub put_at : (out x : List ℕ) (i k m : ℕ) → length x ≡ k → m ≡ k → i + k ≤ length out → put_mid i m out x ≡ sets out i x
+put_at out x i k m e f h =
+    let l : i + length x ≤ length out = omega arith in
+    rw (f, sets-eq x out i l, e, append_assoc, drop-drop)
 
 pub bytes_length : (k n : ℕ) → length (bytes_of k n) ≡ k
 unfolding bytes_of

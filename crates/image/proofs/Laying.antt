@@ -1,12 +1,13 @@
 -- Lists that are written one behind the other into a longer one are written as one list. Assumes nothing.
 use Prim.Native.Nat.{ℕ, zero, suc, ◌+◌, ◌*◌, ◌-◌, ◌<◌, ◌≤◌}
-use mathlib.Core.Path.{◌≡◌, refl, sym, ◌∙◌}
+use mathlib.Core.Path.{◌≡◌, refl, sym, ap, ◌∙◌}
 use mathlib.Core.List.{List, [], ◌∷◌, ◌++◌}
 use native.Mathlib.Omega.{arith}
-use native.Mathlib.Nat.{sub-zero, mul-zero, add-zero, mul-suc, mul-le-mul_left}
+use native.Mathlib.Nat.{sub-zero, zero-add, mul-zero, add-zero, mul-suc, mul-le-mul_left}
 use native.Mathlib.Numerals.{add-one}
-use lib.ListN.{length, set, length-append}
-use lib.Seq.{sets}
+use borrow.Rule.Slice.PartMut.{mid_of}
+use lib.ListN.{length, get_or, set, drop, length-append, length-drop}
+use lib.Seq.{sets, length-take-le, get_or-take, get_or-drop}
 use Rattle.packing.specs.Packing.{at, band_at}
 use Rattle.image.specs.Bytes.{bytes_of}
 use Rattle.image.specs.Image.{head_of, band_of, word_part, parts}
@@ -37,6 +38,25 @@ parts-length g k h (suc n) i = simp length-append (omega (arith, h i, parts-leng
 
 pub words_length : (w : List ℕ) (from k n : ℕ) → length (parts (word_part w from k) n 0) ≡ k * n
 words_length w from k n = parts-length (word_part w from k) k (λ i. bytes_length k (at w (from + i))) n 0
+
+-- words that are a part of others
+parts-same : (g h : ℕ → List ℕ) (n i : ℕ) → ((x : ℕ) → i ≤ x → x < i + n → g x ≡ h x) → parts g n i ≡ parts h n i
+unfolding parts
+parts-same g h zero i e = refl
+parts-same g h (suc n) i e =
+    ap (λ l. l ++ parts g n (i + 1)) (e i (omega arith) (omega arith))
+    ∙ ap (λ l. h i ++ l) (parts-same g h n (i + 1) (λ x p q. e x (omega arith) (omega arith)))
+
+pub part_words :
+    (t : List ℕ) (a : ℕ) (w : List ℕ) (from k n : ℕ) {m : ℕ} {u : List ℕ} → m ≡ n → from + n ≤ length w
+    → u ≡ sets t a (parts (word_part (mid_of from m w) 0 k) (length (mid_of from m w)) 0) → u ≡ sets t a (parts (word_part w from k) n 0)
+part_words t a w from k n {m} {u} e h q =
+    let l : length (mid_of from n w) ≡ n = length-take-le n (drop from w) (simp length-drop (omega arith)) in
+    let p : parts (word_part (mid_of from n w) 0 k) (length (mid_of from n w)) 0 ≡ parts (word_part w from k) n 0 =
+    rw l
+    (parts-same (word_part (mid_of from n w) 0 k) (word_part w from k) n 0
+    (λ x i j. ap (bytes_of k) (ap (λ y. get_or (mid_of from n w) y 0) (zero-add x) ∙ get_or-take n (drop from w) x 0 (omega arith) ∙ get_or-drop from w x 0))) in
+    (rw e at q) ∙ ap (sets t a) p
 
 -- there is room for the next part where there is for all
 pub room_next : (k a n i m : ℕ) → i < n → a + k * n ≤ m → a + k * i + k ≤ m

@@ -1,4 +1,5 @@
 -- The image of an accepted job reads as the job: it holds the layout, its words are the job's, and so are its fields. Assumes nothing.
+use Rattle.bands.specs.Numbered.{symmetry_word}
 use Prim.Native.Nat.{ℕ, zero, suc, ◌+◌, ◌*◌, ◌/◌, ◌%◌, ◌^◌, ◌<◌, ◌≤◌}
 use mathlib.Core.Path.{◌≡◌, refl, ap, ◌∙◌}
 use mathlib.Core.Bool.{Bool, true, false, not, cond}
@@ -23,7 +24,7 @@ use Rattle.fields.specs.declared.held.Fields.{Fields}
 use Rattle.fields.specs.Interpolant.{Interpolation}
 use Rattle.fields.specs.Accept.{accept_of}
 use Rattle.packing.specs.Packing as words
-use Rattle.packing.specs.Packing.{at, band_at, symmetry_word, kind_word, first_word, second_word, band_words, bands_word, points_held, head_words, words_of, fields_of}
+use Rattle.packing.specs.Packing.{at, band_at, kind_word, first_word, second_word, band_words, bands_word, points_held, head_words, words_of, fields_of}
 use Rattle.packing.specs.Alike.{ValueFits, Stored}
 use Rattle.packing.proofs.Sound.{Sound, sound}
 use Rattle.packing.proofs.Places.{band_word_lem, point_word_lem}

@@ -1,4 +1,5 @@
 -- Every accepted image saves back to the same bytes. Assumes nothing.
+use Rattle.bands.specs.Numbered.{symmetry_of, symmetry_word, value_of}
 use Prim.Native.Nat.{ℕ, zero, suc, ◌+◌, ◌*◌, ◌/◌, ◌%◌, ◌^◌, ◌<◌, ◌≤◌}
 use mathlib.Core.Path.{◌≡◌, refl, ap, ◌∙◌}
 use mathlib.Core.Bool.{Bool, true, false, not, ◌&&◌, ◌||◌, cond}
@@ -29,7 +30,7 @@ use Rattle.fields.specs.Request.{points_of}
 use Rattle.fields.specs.Interpolant.{Interpolation}
 use Rattle.fields.specs.Accept.{accept_of}
 use Rattle.packing.specs.Packing as words
-use Rattle.packing.specs.Packing.{at, band_at, point_at, symmetry_word, symmetry_of, kind_word, first_word, second_word, value_of, band_words, band_in, bands_word, number, points_held, head_words, words_of, fields_of}
+use Rattle.packing.specs.Packing.{at, band_at, point_at, kind_word, first_word, second_word, band_words, band_in, bands_word, number, points_held, head_words, words_of, fields_of}
 use Rattle.packing.proofs.Sound.{Sound, sound}
 use Rattle.image.specs.Bytes.{number_at}
 use Rattle.image.specs.Image.{band_from, count_in, points_in, head_in, band_word, point_word, words_in, value_laid, band_laid, layout, image_for, few_bands, few_points, image_of}

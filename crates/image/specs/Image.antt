@@ -1,16 +1,16 @@
 -- The image of a job (document 01, "The image"): "RXS", version 1, and the fields, a byte or two or eight each; per band 50 bytes; then
 -- the points. Nothing derived is kept.
+use Rattle.bands.specs.Numbered.{symmetry_of}
 use Rattle.std.specs.Prelude.{ℕ, zero, suc, ◌+◌, ◌*◌, ◌/◌, ◌%◌, ◌-◌, Bool, ◌&&◌, ◌||◌, cond, List, [], ◌∷◌, ◌++◌, eqb, leb, ltb, length, take, drop, get_or}
 use Rattle.std.specs.Float.{binary64}
 use Rattle.std.specs.Float.Ieee.{of_bits}
 use Rattle.numbers.specs.Loops.{tab, every}
 use Rattle.numbers.specs.Outcome.{Outcome, gave, unless}
-use Rattle.bands.specs.declared.Symmetry.{Symmetry}
-use Rattle.fir_types.specs.Kinds.{functions}
 use Rattle.fields.specs.declared.held.Fields.{Fields}
 use Rattle.fields.specs.Accept.{counts_hold}
-use Rattle.packing.specs.Packing.{at, symmetry_at, taps_at, degree_at, allowed_at, made_at, count_at, threshold_at, flatness_at, band_at, point_at, symmetry_of, words_of, fields_of}
+use Rattle.packing.specs.Packing.{at, symmetry_at, taps_at, degree_at, allowed_at, made_at, count_at, threshold_at, flatness_at, band_at, point_at, words_of, fields_of}
 use Rattle.image.specs.Bytes.{bytes_of, number_at}
+pub use Rattle.packing.specs.Packing.{points_for}
 
 -- ---- sizes
 abbrev pub head_bytes : ℕ
@@ -22,10 +22,6 @@ band_bytes = 50
 -- 28 + 50 bands + 8 points
 abbrev pub length_for : ℕ → ℕ → ℕ
 length_for bands points = head_bytes + band_bytes * bands + 8 * points
-
--- points: functions + 1 where an exchange was made
-abbrev pub points_for : ℕ → ℕ → Symmetry → ℕ
-points_for made taps s = cond (eqb made 0) 0 (functions taps s + 1)
 
 -- ---- from words to bytes
 -- R, X, S
@@ -144,7 +140,3 @@ most_bytes = 948
 
 unfoldable pub save_for : Fields → ℕ → Outcome (List ℕ)
 save_for j room = unless (leb most_bytes room) 1 (gave (image_of j))
-
--- what is answered where 14 refuses
-abbrev pub blank : Fields
-blank = fields_of []

@@ -1,53 +1,29 @@
-ghost use Rattle.std.specs.Prelude.{◌≡◌, ◌+◌, ◌<◌, ◌≤◌, length};
+ghost use Rattle.std.specs.Prelude.{◌≡◌, ◌+◌, ◌^◌, ◌<◌, ◌≤◌, length, get_or};
 ghost use Rattle.std.proofs.lemmas.List.Edits.{sets};
 ghost use Rattle.image.specs.Bytes.{bytes_of, number_at};
 
-fn wide(b: u8) -> u64
-    ensures { (result ≡ b) × (result < 256) }
+fn byte_at(s: &[u8], i: usize) -> u64
+    ensures { (result ≡ get_or s.now i 0) × (result < 256) }
 {
-    b as u64
+    u64::from(s.get(i).copied().unwrap_or(0))
 }
 
-// The numbers in one, two, four and eight bytes from i on; bytes past the end are zero.
-pub(crate) fn byte_at(s: &[u8], i: usize) -> u64
-    ensures { (result ≡ number_at s.now i 1) × (result < 256) }
+// The number in the k bytes from i on, the lowest first; bytes past the end are zero.
+pub(crate) fn number_at(s: &[u8], i: usize, k: usize) -> u64
+    requires { (i < 100000) × (k ≤ 8) }
+    ensures { (result ≡ number_at s.now i k) × (result < 256 ^ k) }
 {
-    if i < s.len() { wide(s[i]) } else { 0 }
-}
-
-pub(crate) fn two_at(s: &[u8], i: usize) -> u64
-    requires { i < 1000 }
-    ensures { (result ≡ number_at s.now i 2) × (result < 65536) }
-{
-    byte_at(s, i) + 256 * byte_at(s, i + 1)
-}
-
-fn four_at(s: &[u8], i: usize) -> u64
-    requires { i < 998 }
-    ensures { (result ≡ number_at s.now i 4) × (result < 4294967296) }
-{
-    two_at(s, i) + 65536 * two_at(s, i + 2)
-}
-
-pub(crate) fn eight_at(s: &[u8], i: usize) -> u64
-    requires { i < 994 }
-    ensures { result ≡ number_at s.now i 8 }
-{
-    four_at(s, i) + 4294967296 * four_at(s, i + 4)
+    let mut n = 0;
+    for j in (i..i + k).rev() {
+        n = 256 * n + byte_at(s, j);
+    }
+    n
 }
 
 // The k lowest bytes of a number, written from i on.
 pub(crate) fn put(out: &mut [u8], i: usize, k: usize, n: u64)
-    requires { i + k ≤ length out.old }
+    requires { (i + k ≤ length out.old) × (k ≤ 8) }
     ensures { out.new ≡ sets out.old i (bytes_of k n) }
 {
-    let mut at = i;
-    let mut left = k;
-    let mut rest = n;
-    while left > 0 {
-        out[at] = (rest % 256) as u8;
-        rest = rest / 256;
-        at += 1;
-        left -= 1;
-    }
+    out[i..i + k].copy_from_slice(&n.to_le_bytes()[..k]);
 }

@@ -1,61 +1,50 @@
-ghost use Rattle.std.specs.Prelude.{◌≡◌, ◌<◌, ◌≤◌, ◌/◌, ◌%◌};
+ghost use Rattle.std.specs.Prelude.{◌≡◌, ◌<◌, ◌/◌, ◌%◌};
 ghost use Rattle.numbers.specs.Loops.{tab};
-ghost use Rattle.image.specs.Image.{count_in, head_in, band_word, point_word, words_in};
+ghost use Rattle.image.specs.Image.{head_in, band_word, point_word, words_in};
 
 use crate::{bytes, layout};
+use std::array;
 
 fn head_in(s: &[u8]) -> [u64; 8]
     ensures { result ≡ head_in s.now }
 {
     [
-        bytes::byte_at(s, 5),
-        bytes::two_at(s, 6),
-        bytes::byte_at(s, 8),
-        bytes::byte_at(s, 9),
-        bytes::byte_at(s, 10),
-        bytes::byte_at(s, 11),
-        bytes::eight_at(s, 12),
-        bytes::eight_at(s, 20),
+        bytes::number_at(s, 5, 1),
+        bytes::number_at(s, 6, 2),
+        bytes::number_at(s, 8, 1),
+        bytes::number_at(s, 9, 1),
+        bytes::number_at(s, 10, 1),
+        bytes::number_at(s, 11, 1),
+        bytes::number_at(s, 12, 8),
+        bytes::number_at(s, 20, 8),
     ]
 }
 
 fn bands_in(s: &[u8]) -> [u64; 64]
     ensures { result ≡ tab (λ k. band_word s.now (k / 8) (k % 8)) 64 0 }
 {
-    let mut out = [0; 64];
-    let mut k: usize = 0;
-    while k < 64 {
-        out[k] = layout::band_word(s, k / 8, k % 8);
-        k += 1;
-    }
-    out
+    array::from_fn(|k| layout::band_word(s, k / 8, k % 8))
 }
 
 fn point_word(s: &[u8], i: usize) -> u64
-    requires { (count_in s.now ≤ 8) × (i < 65) }
+    requires { i < 65 }
     ensures { result ≡ point_word s.now i }
 {
     if i < layout::points_in(s) {
-        return bytes::eight_at(s, 28 + 50 * layout::count_in(s) + 8 * i);
+        bytes::number_at(s, 28 + 50 * layout::count_in(s) + 8 * i, 8)
+    } else {
+        0
     }
-    0
 }
 
 fn points_in(s: &[u8]) -> [u64; 65]
-    requires { count_in s.now ≤ 8 }
     ensures { result ≡ tab (point_word s.now) 65 0 }
 {
-    let mut out = [0; 65];
-    let mut i: usize = 0;
-    while i < 65 {
-        out[i] = point_word(s, i);
-        i += 1;
-    }
-    out
+    array::from_fn(|i| point_word(s, i))
 }
 
+#[tactic(auto, unfolding(crate::specs::Image::words_in))]
 pub(crate) fn words_in(s: &[u8]) -> [u64; 137]
-    requires { count_in s.now ≤ 8 }
     ensures { result ≡ words_in s.now }
 {
     packing::join(head_in(s), bands_in(s), points_in(s))

@@ -8,23 +8,16 @@ fn put_mark(out: &mut [u8])
     requires { 3 ≤ length out.old }
     ensures { out.new ≡ sets out.old 0 mark }
 {
-    let mark = b"RXS";
-    out[0] = mark[0];
-    out[1] = mark[1];
-    out[2] = mark[2];
+    out[..3].copy_from_slice(b"RXS");
 }
 
-// n words from word `from` on, k bytes each.
-fn put_words(w: &[u64; 137], from: usize, n: usize, k: usize, out: &mut [u8], a: usize)
-    requires { (from + n ≤ 137) × (a + k * n ≤ length out.old) }
-    ensures { out.new ≡ sets out.old a (parts (word_part w.now from k) n 0) }
+// The words, k bytes each, from place a on.
+fn put_words(words: &[u64], k: usize, out: &mut [u8], a: usize)
+    requires { (a + k * length words.now ≤ length out.old) × (k ≤ 8) }
+    ensures { out.new ≡ sets out.old a (parts (word_part words.now 0 k) (length words.now) 0) }
 {
-    let mut at = a;
-    let mut i: usize = 0;
-    while i < n {
-        bytes::put(out, at, k, w[from + i]);
-        at += k;
-        i += 1;
+    for (i, &word) in words.iter().enumerate() {
+        bytes::put(out, a + k * i, k, word);
     }
 }
 
@@ -44,8 +37,8 @@ fn put_head(w: &[u64; 137], out: &mut [u8])
     ensures { out.new ≡ sets out.old 0 (head_of w.now) }
 {
     put_start(w, out);
-    put_words(w, 2, 4, 1, out, 8);
-    put_words(w, 6, 2, 8, out, 12);
+    put_words(&w[2..6], 1, out, 8);
+    put_words(&w[6..8], 8, out, 12);
 }
 
 fn put_band(w: &[u64; 137], i: usize, out: &mut [u8])
@@ -54,18 +47,16 @@ fn put_band(w: &[u64; 137], i: usize, out: &mut [u8])
 {
     let k = 8 + 8 * i;
     let a = 28 + 50 * i;
-    put_words(w, k, 2, 1, out, a);
-    put_words(w, k + 2, 6, 8, out, a + 2);
+    put_words(&w[k..k + 2], 1, out, a);
+    put_words(&w[k + 2..k + 8], 8, out, a + 2);
 }
 
 fn put_bands(w: &[u64; 137], n: usize, out: &mut [u8])
     requires { (n ≤ 8) × (band_from n ≤ length out.old) }
     ensures { out.new ≡ sets out.old 28 (parts (band_of w.now) n 0) }
 {
-    let mut i: usize = 0;
-    while i < n {
+    for i in 0..n {
         put_band(w, i, out);
-        i += 1;
     }
 }
 
@@ -76,5 +67,5 @@ pub(crate) fn put_bytes(w: &[u64; 137], bands: usize, points: usize, out: &mut [
 {
     put_head(w, out);
     put_bands(w, bands, out);
-    put_words(w, 72, points, 8, out, 28 + 50 * bands);
+    put_words(&w[72..72 + points], 8, out, 28 + 50 * bands);
 }

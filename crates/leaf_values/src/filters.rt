@@ -1,209 +1,122 @@
 // Taps, lookup, response check, edges and adjusted values.
-use crate::judging::{Found, bad, judged_list, judged_one, settled};
+use crate::judging::{judged_list, judged_one};
 use crate::plans::filter_at;
-use bands::{Plan, Symmetry};
-use cases::{is_same, list_into, numbers_into, past, plan_at, symmetry_of, whole_at};
-use numbers::{Scalar, Verdict};
-use text::Token;
+use bands::Symmetry;
+use cases::{count_at, is_same, list_into, numbers_into, past, plan_at};
+use fir_types::{Interval, Target};
+use numbers::Refusal;
 
-pub(crate) fn taps(s: &[u8], at: usize, a: &mut [f64], said: &mut [f64], out: &mut [f64]) -> Found {
-    let t = whole_at(s, past(s, at));
-    let y = whole_at(s, t.at);
-    let p = list_into(s, y.at, a);
-    let g = list_into(s, p.at, said);
-    let n = p.count;
-    if a.len() < n {
-        return bad(at);
-    }
-    let v = fir_types::h_from_ak(&a[..n], t.count, symmetry_of(y.count), out);
-    settled(p.good, g, judged_list(v, out, said, g.count))
+pub(crate) fn taps(s: &[u8], at: usize) -> Option<bool> {
+    let mut a = [0.0; 128];
+    let mut said = [0.0; 128];
+    let mut out = [0.0; 128];
+    let t = count_at(s, past(s, at));
+    let y = count_at(s, t.at);
+    let p = list_into(s, y.at, &mut a)?;
+    let g = list_into(s, p.at, &mut said)?;
+    let v = fir_types::h_from_ak(
+        a.get(..p.count)?,
+        t.count,
+        Symmetry::from(y.count as u64),
+        &mut out,
+    );
+    Some(judged_list(v, &out, &said, g.count))
 }
 
-pub(crate) fn does_lookup_agree(plan: Plan, places: &[f64], said: &[f64]) -> bool {
-    let mut i: usize = 0;
-    while i < places.len() {
-        if said.len() <= i {
-            return false;
-        }
-        if !is_same(bands::desired_at(plan, places[i]), said[i]) {
-            return false;
-        }
-        i += 1;
-    }
-    true
-}
-
-pub(crate) fn lookup(s: &[u8], at: usize, places: &mut [f64], said: &mut [f64]) -> Found {
-    let n = whole_at(s, past(s, at));
-    let p = plan_at(s, n.at, n.count);
-    let t = list_into(s, p.at, places);
-    let g = list_into(s, t.at, said);
+pub(crate) fn lookup(s: &[u8], at: usize) -> Option<bool> {
+    let mut places = [0.0; 128];
+    let mut said = [0.0; 128];
+    let n = count_at(s, past(s, at));
+    let p = plan_at(s, n.at, n.count)?;
+    let t = list_into(s, p.at, &mut places)?;
+    list_into(s, t.at, &mut said)?;
     let plan = p.plan;
-    let m = t.count;
-    if places.len() < m {
-        return bad(at);
-    }
-    settled(p.good, g, does_lookup_agree(plan, &places[..m], said))
+    Some(
+        places
+            .get(..t.count)?
+            .iter()
+            .zip(&said)
+            .all(|(&f, &d)| is_same(bands::desired_at(plan, f), d)),
+    )
 }
 
-pub(crate) fn is_taken(v: Verdict) -> bool {
-    match v {
-        Verdict::Taken => true,
-        Verdict::Refused(_) => false,
-    }
+pub(crate) fn realizable(s: &[u8], at: usize) -> Option<bool> {
+    let f = filter_at(s, at)?;
+    let word = text::next(s, past(s, f.at))?;
+    Some(text::is(s, word, b"realizable") == f.target.check_response().is_ok())
 }
 
-pub(crate) fn realizable(s: &[u8], at: usize) -> Found {
-    let f = filter_at(s, at);
-    let p = f.planned;
-    let plan = p.plan;
-    let y = f.symmetry;
-    let taken = is_taken(fir_types::check_response(plan, y, f.odd));
-    let Token::Word(from, to) = text::next(s, past(s, p.at)) else {
-        return bad(at);
-    };
-    Found {
-        at: to,
-        good: p.good,
-        agrees: text::is(s, from, to, b"realizable") == taken,
-    }
+fn is_interval(m: Interval, pair: &[f64; 2]) -> bool {
+    is_same(m.begin, pair[0]) && is_same(m.end, pair[1])
 }
 
-// Interval k of the answer has the edges b and c.
-pub(crate) fn is_edge(e: fir_types::Edges, k: usize, b: f64, c: f64) -> bool {
-    if 8 <= k {
-        return false;
-    }
-    let m = e.list[k];
-    if is_same(m.begin, b) {
-        is_same(m.end, c)
-    } else {
-        false
-    }
-}
-
-// How many pairs have positive length, if the answer has just those; 9 else. pm-remez keeps the others too.
-pub(crate) fn edges_passed(e: fir_types::Edges, said: &[f64], pairs: usize) -> usize {
-    let mut k: usize = 0;
-    let mut i: usize = 0;
-    while i < pairs {
-        if said.len() / 2 <= i {
-            return 9;
-        }
-        let b = said[2 * i];
-        let c = said[2 * i + 1];
-        if b < c {
-            if !is_edge(e, k, b, c) {
-                return 9;
+// Whether the pairs of positive length are just the intervals. pm-remez keeps the others too.
+fn are_kept(intervals: &[Interval], said: &[[f64; 2]]) -> bool {
+    let mut left = intervals;
+    for pair in said {
+        if pair[0] < pair[1] {
+            match left {
+                [m, rest @ ..] if is_interval(*m, pair) => left = rest,
+                _ => return false,
             }
-            k = std::num::wrapping_add_usize(k, 1);
         }
-        i += 1;
     }
-    k
+    left.is_empty()
 }
 
-pub(crate) fn edges(s: &[u8], at: usize, said: &mut [f64]) -> Found {
-    let f = filter_at(s, at);
-    let p = f.planned;
-    let plan = p.plan;
-    let y = f.symmetry;
-    let r = fir_types::adjust_bands(plan, y, f.odd);
-    let n = whole_at(s, past(s, p.at));
-    let pairs = n.count;
-    if 64 < pairs {
-        return bad(at);
-    }
-    let g = numbers_into(s, n.at, 2 * pairs, said);
-    let e = r.edges;
-    settled(p.good, g, edges_passed(e, said, pairs) == e.count)
-}
-
-// Each interval of the list, in radians.
-pub(crate) fn do_radians_agree(given: &[f64], said: &[f64], pairs: usize) -> bool {
-    let mut i: usize = 0;
-    while i < pairs {
-        if given.len() / 2 <= i {
-            return false;
-        }
-        if said.len() / 2 <= i {
-            return false;
-        }
-        let b = fir_types::in_radians(fir_types::Interval {
-            begin: given[2 * i],
-            end: given[2 * i + 1],
-        });
-        if !is_same(b.begin, said[2 * i]) {
-            return false;
-        }
-        if !is_same(b.end, said[2 * i + 1]) {
-            return false;
-        }
-        i += 1;
-    }
-    true
-}
-
-pub(crate) fn radians(s: &[u8], at: usize, given: &mut [f64], said: &mut [f64]) -> Found {
-    let n = whole_at(s, past(s, at));
-    let m = n.count;
-    if 64 < m {
-        return bad(at);
-    }
-    let p = numbers_into(s, n.at, 2 * m, given);
-    let g = numbers_into(s, past(s, past(s, p.at)), 2 * m, said);
-    settled(p.good, g, do_radians_agree(given, said, m))
-}
-
-pub(crate) fn adjusted_at(plan: Plan, y: Symmetry, odd: bool, weight: bool, f: f64) -> Scalar {
-    if weight {
-        fir_types::adjust_weights(plan, y, odd, f)
-    } else {
-        fir_types::adjust_desired(plan, y, odd, f)
+pub(crate) fn edges(s: &[u8], at: usize) -> Option<bool> {
+    let mut said = [[0.0; 2]; 64];
+    let f = filter_at(s, at)?;
+    let n = count_at(s, past(s, f.at));
+    let count = n.count.checked_mul(2)?;
+    numbers_into(s, n.at, count, said.as_flattened_mut())?;
+    let said = said.get(..n.count)?;
+    match f.target.adjust_bands() {
+        Ok(e) => Some(are_kept(e.list.get(..e.count)?, said)),
+        Err(_) => Some(are_kept(&[], said)),
     }
 }
 
-pub(crate) fn do_adjusted_agree(
-    plan: Plan,
-    y: Symmetry,
-    odd: bool,
-    weight: bool,
-    places: &[f64],
-    said: &[f64],
-) -> bool {
-    let mut i: usize = 0;
-    while i < places.len() {
-        if said.len() <= i {
-            return false;
-        }
-        if !judged_one(adjusted_at(plan, y, odd, weight, places[i]), said[i]) {
-            return false;
-        }
-        i += 1;
-    }
-    true
+// Whether the second interval is the first in radians.
+fn is_in_radians(given: &[f64; 2], said: &[f64; 2]) -> bool {
+    let m = fir_types::in_radians(Interval {
+        begin: given[0],
+        end: given[1],
+    });
+    is_interval(m, said)
 }
 
-pub(crate) fn adjusted(
+pub(crate) fn radians(s: &[u8], at: usize) -> Option<bool> {
+    let mut given = [[0.0; 2]; 64];
+    let mut said = [[0.0; 2]; 64];
+    let n = count_at(s, past(s, at));
+    let count = n.count.checked_mul(2)?;
+    let p = numbers_into(s, n.at, count, given.as_flattened_mut())?;
+    let q = past(s, past(s, p.at));
+    numbers_into(s, q, count, said.as_flattened_mut())?;
+    let given = given.get(..n.count)?;
+    Some(given.iter().zip(&said).all(|(m, q)| is_in_radians(m, q)))
+}
+
+// Desired values or weights at the places of a list, as `adjust` gives them.
+pub(crate) fn adjusted<F: Fn(Target, f64) -> Result<f64, Refusal>>(
     s: &[u8],
     at: usize,
-    weight: bool,
-    places: &mut [f64],
-    said: &mut [f64],
-) -> Found {
-    let f = filter_at(s, at);
-    let p = f.planned;
-    let plan = p.plan;
-    let y = f.symmetry;
-    let t = list_into(s, p.at, places);
-    let g = list_into(s, t.at, said);
-    let m = t.count;
-    if places.len() < m {
-        return bad(at);
-    }
-    settled(
-        p.good,
-        g,
-        do_adjusted_agree(plan, y, f.odd, weight, &places[..m], said),
+    adjust: F,
+) -> Option<bool>
+    requires { F.IsAlwaysCallable adjust }
+{
+    let mut places = [0.0; 128];
+    let mut said = [0.0; 128];
+    let f = filter_at(s, at)?;
+    let t = list_into(s, f.at, &mut places)?;
+    list_into(s, t.at, &mut said)?;
+    let target = f.target;
+    let places = places.get(..t.count)?;
+    Some(
+        places
+            .iter()
+            .zip(&said)
+            .all(|(&f, &v)| judged_one(adjust(target, f), v)),
     )
 }

@@ -1,183 +1,75 @@
-// Weights, delta, abscissas and responses, each with lists to read into.
-use crate::judging::{Found, bad, judged_list, judged_one, settled};
+// Weights, delta, abscissas and responses.
+use crate::judging::{judged_list, judged_one};
 use crate::reading::{one_into, three_into, two_into};
 use cases::list_into;
+use numbers::Refusal;
 
-pub(crate) fn weights(
+// A leaf that makes a list of a list.
+pub(crate) fn of_list<F: Fn(&[f64], &mut [f64]) -> Result<(), Refusal>>(
     s: &[u8],
     at: usize,
-    x: &mut [f64],
-    said: &mut [f64],
-    out: &mut [f64],
-) -> Found {
-    let p = list_into(s, at, x);
-    let g = list_into(s, p.at, said);
-    let n = p.count;
-    if x.len() < n {
-        return bad(at);
-    }
-    let v = barycentric::compute_barycentric_weights(&x[..n], out);
-    settled(p.good, g, judged_list(v, out, said, g.count))
+    leaf: F,
+) -> Option<bool>
+    requires { F.IsAlwaysCallable leaf }
+{
+    let mut x = [0.0; 128];
+    let mut said = [0.0; 128];
+    let mut out = [0.0; 128];
+    let p = list_into(s, at, &mut x)?;
+    let g = list_into(s, p.at, &mut said)?;
+    let v = leaf(x.get(..p.count)?, &mut out);
+    Some(judged_list(v, &out, &said, g.count))
 }
 
-pub(crate) fn does_delta_agree(
-    w: &[f64],
-    n: usize,
-    d: &[f64],
-    m: usize,
-    b: &[f64],
-    k: usize,
-    said: &[f64],
-) -> bool {
-    if w.len() < n {
-        return false;
-    }
-    if d.len() < m {
-        return false;
-    }
-    if b.len() < k {
-        return false;
-    }
-    if said.len() < 1 {
-        return false;
-    }
-    judged_one(
-        barycentric::compute_delta(&w[..n], &d[..m], &b[..k]),
-        said[0],
-    )
+pub(crate) fn delta(s: &[u8], at: usize) -> Option<bool> {
+    let mut w = [0.0; 128];
+    let mut d = [0.0; 128];
+    let mut b = [0.0; 128];
+    let mut said = [0.0; 1];
+    let p = list_into(s, at, &mut w)?;
+    let q = list_into(s, p.at, &mut d)?;
+    let r = list_into(s, q.at, &mut b)?;
+    one_into(s, r.at, &mut said)?;
+    let v = barycentric::compute_delta(w.get(..p.count)?, d.get(..q.count)?, b.get(..r.count)?);
+    Some(judged_one(v, said[0]))
 }
 
-pub(crate) fn delta(
-    s: &[u8],
-    at: usize,
-    w: &mut [f64],
-    d: &mut [f64],
-    b: &mut [f64],
-    said: &mut [f64],
-) -> Found {
-    let p = list_into(s, at, w);
-    let q = list_into(s, p.at, d);
-    let r = list_into(s, q.at, b);
-    let g = one_into(s, r.at, said);
-    settled(
-        r.good,
-        g,
-        does_delta_agree(w, p.count, d, q.count, b, r.count, said),
-    )
-}
-
-pub(crate) fn do_abscissas_agree(
-    e: &[f64],
-    d: &[f64],
-    m: usize,
-    b: &[f64],
-    k: usize,
-    said: &[f64],
-    out: &mut [f64],
-) -> bool {
-    if e.len() < 1 {
-        return false;
-    }
-    if d.len() < m {
-        return false;
-    }
-    if b.len() < k {
-        return false;
-    }
-    let v = barycentric::compute_lagrange_abscisa(e[0], &d[..m], &b[..k], out);
-    judged_list(v, out, said, m)
-}
-
-pub(crate) fn abscissas(
-    s: &[u8],
-    at: usize,
-    e: &mut [f64],
-    d: &mut [f64],
-    b: &mut [f64],
-    said: &mut [f64],
-    out: &mut [f64],
-) -> Found {
-    let p = one_into(s, at, e);
-    let q = two_into(s, p.at, d, b);
-    let g = list_into(s, q.at, said);
-    settled(
-        q.good,
-        g,
-        do_abscissas_agree(e, d, q.count, b, q.count, said, out),
-    )
-}
-
-// The response at every place by itself.
-pub(crate) fn does_each_agree(
-    places: &[f64],
-    m: usize,
-    x: &[f64],
-    w: &[f64],
-    y: &[f64],
-    said: &[f64],
-) -> bool {
-    let mut i: usize = 0;
-    while i < m {
-        if places.len() <= i {
-            return false;
-        }
-        if said.len() <= i {
-            return false;
-        }
-        let r = barycentric::compute_freq_response(places[i], x, w, y);
-        if !judged_one(r, said[i]) {
-            return false;
-        }
-        i += 1;
-    }
-    true
+pub(crate) fn abscissas(s: &[u8], at: usize) -> Option<bool> {
+    let mut e = [0.0; 1];
+    let mut d = [0.0; 128];
+    let mut b = [0.0; 128];
+    let mut said = [0.0; 128];
+    let mut out = [0.0; 128];
+    let p = one_into(s, at, &mut e)?;
+    let q = two_into(s, p.at, &mut d, &mut b)?;
+    list_into(s, q.at, &mut said)?;
+    let v = barycentric::compute_lagrange_abscisa(
+        e[0],
+        d.get(..q.count)?,
+        b.get(..q.count)?,
+        &mut out,
+    );
+    Some(judged_list(v, &out, &said, q.count))
 }
 
 // One place after the other, and the list form. There are as many weights and abscissas as points.
-pub(crate) fn do_responses_agree(
-    places: &[f64],
-    m: usize,
-    x: &[f64],
-    w: &[f64],
-    y: &[f64],
-    n: usize,
-    said: &[f64],
-    out: &mut [f64],
-) -> bool {
-    if places.len() < m {
-        return false;
-    }
-    if x.len() < n {
-        return false;
-    }
-    if w.len() < n {
-        return false;
-    }
-    if y.len() < n {
-        return false;
-    }
-    if !does_each_agree(places, m, &x[..n], &w[..n], &y[..n], said) {
-        return false;
-    }
-    let v = barycentric::compute_freq_responses(&places[..m], &x[..n], &w[..n], &y[..n], out);
-    judged_list(v, out, said, m)
-}
-
-pub(crate) fn response(
-    s: &[u8],
-    at: usize,
-    x: &mut [f64],
-    w: &mut [f64],
-    y: &mut [f64],
-    places: &mut [f64],
-    said: &mut [f64],
-    out: &mut [f64],
-) -> Found {
-    let p = three_into(s, at, x, w, y);
-    let t = two_into(s, p.at, places, said);
-    settled(
-        p.good,
-        t,
-        do_responses_agree(places, t.count, x, w, y, p.count, said, out),
-    )
+pub(crate) fn response(s: &[u8], at: usize) -> Option<bool> {
+    let mut x = [0.0; 128];
+    let mut w = [0.0; 128];
+    let mut y = [0.0; 128];
+    let mut places = [0.0; 128];
+    let mut said = [0.0; 128];
+    let mut out = [0.0; 128];
+    let p = three_into(s, at, &mut x, &mut w, &mut y)?;
+    let t = two_into(s, p.at, &mut places, &mut said)?;
+    let x = x.get(..p.count)?;
+    let w = w.get(..p.count)?;
+    let y = y.get(..p.count)?;
+    let places = places.get(..t.count)?;
+    let each = places.iter().zip(&said).all(|(&f, &r)| judged_one(
+        barycentric::compute_freq_response(f, x, w, y),
+        r,
+    ));
+    let v = barycentric::compute_freq_responses(places, x, w, y, &mut out);
+    Some(each && judged_list(v, &out, &said, t.count))
 }

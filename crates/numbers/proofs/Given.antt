@@ -1,5 +1,6 @@
 -- What an outcome that gave something tells: of the test before it, of the chain behind it, and of a gathered list, which is as
 -- long as asked for, each entry what was given in its turn. Assumes nothing.
+use Rattle.std.specs.Prelude.{Result}
 use Prim.Native.Nat.{ℕ, zero, suc, ◌+◌, ◌<◌}
 use mathlib.Core.Path.{◌≡◌, refl, ap, ◌∙◌}
 use mathlib.Core.Bool.{Bool, true, false}
@@ -11,7 +12,7 @@ use lib.ListN.{length, get_or}
 use lib.Ieee.{Float}
 use lib.Ieee.Scale.{finite}
 use Rattle.numbers.specs.Floats.{all_finite}
-use Rattle.numbers.specs.declared.Verdict.{Verdict}
+use Rattle.numbers.specs.declared.Refusal.{Refusal}
 use Rattle.numbers.specs.Outcome.{Outcome, refused, gave, bind, unless, needed_list_of, gather}
 use Rattle.numbers.specs.Refusals.{Filled}
 
@@ -45,7 +46,7 @@ bind_given (refused n) k e = absurd (never_given e)
 bind_given (gave a) k e = record { value = a; given = refl; rest = e }
 
 -- a chain whose last leaf writes the list
-pub filled_next : {A B : Type 0} {a : A} {o : Outcome A} {n : ℕ} {r : Verdict} {w w' : List B} (k : A → Outcome (List B)) → gave a ≡ o → Filled (k a) n r w w' → Filled (bind o k) n r w w'
+pub filled_next : {A B : Type 0} {a : A} {o : Outcome A} {n : ℕ} {r : Result Unit Refusal} {w w' : List B} (k : A → Outcome (List B)) → gave a ≡ o → Filled (k a) n r w w' → Filled (bind o k) n r w w'
 filled_next k e f = rw (← e) f
 
 -- ---- in a list: its first entry, and the list of the turns after it

@@ -81,6 +81,20 @@ holds_from test (suc n) i k e a b =
 pub every-at : (test : ℕ → Bool) (n k : ℕ) → every test n ≡ true → k < n → test k ≡ true
 every-at test n k e h = holds_from test n 0 k e (omega arith) (omega arith)
 
+-- the answer of a test that looks at every place: true where it holds at each, false where one place refutes it
+pub every_from : (test : ℕ → Bool) (n i : ℕ) → ((k : ℕ) → i ≤ k → k < i + n → test k ≡ true) → until (λ i. not (test i)) (λ i. false) (λ i s. s) (λ s. true) n i (tt {0}) ≡ true
+unfolding until
+every_from test zero i h = refl
+every_from test (suc n) i h = rw (h i (omega arith) (omega arith)) (every_from test n (i + 1) (λ k a b. h k (omega arith) (omega arith)))
+
+pub every_is : (test : ℕ → Bool) (n : ℕ) (r : Bool) → (r ≡ true → (k : ℕ) → k < n → test k ≡ true) → (r ≡ false → (k : ℕ) × k < n × test k ≡ false) → r ≡ every test n
+every_is test n true every_one some_not = sym (every_from test n 0 (λ k a b. every_one refl k (omega arith)))
+every_is test n false every_one some_not = go (every test n) refl
+  where
+    go : (t : Bool) → every test n ≡ t → false ≡ t
+    go false e = refl
+    go true e = let w = some_not refl in absurd (true≢false (sym (every-at test n w.0 e w.1) ∙ w.2))
+
 pub enough : {A : Type 0} (f : ℕ → A → A) (d n m k i : ℕ) (s : A) → 0 < d → n ≤ i + m → n ≤ i + k → strided f d n m i s ≡ strided f d n k i s
 unfolding strided
 enough f d n zero zero i s p a b = refl

@@ -1,5 +1,6 @@
 -- Outcomes in the proofs of code: what a match on an answer tells is an outcome, a return in a chain of binds, and a loop
 -- that stops at the first refusal. `chains` is the ruleset for `search`. Assumes nothing.
+use Rattle.std.specs.Prelude.{Result, Ok, Err}
 use Prim.Native.Nat.{ℕ, suc, ◌+◌, ◌-◌, ◌<◌, ◌≤◌}
 use mathlib.Core.Path.{◌≡◌, refl, sym, ap, ◌∙◌}
 use mathlib.Core.List.{List, [], ◌∷◌, ◌++◌, append_assoc, append-nil}
@@ -11,14 +12,8 @@ use lib.ListN.{length, get_or, set, take, drop, drop_of_length-le, length-append
 use lib.Seq.{drop-cons, take_at, take_all, take-suc-set}
 use borrow.Author.Rules.{rules}
 use Rattle.numbers.specs.declared.Refusal.{Refusal}
-use Rattle.numbers.specs.declared.Scalar.{Scalar}
-use Rattle.numbers.specs.declared.Scalar.TheVariants as scalar
-use Rattle.numbers.specs.declared.Verdict.{Verdict}
-use Rattle.numbers.specs.declared.Verdict.TheVariants as verdict
-use Rattle.numbers.specs.declared.Count.{Count}
-use Rattle.numbers.specs.declared.Count.TheVariants as count
 use Rattle.numbers.specs.Outcome.{Outcome, refused, gave, bind, sweep, gather}
-use Rattle.numbers.specs.Refusals.{refusal_number, scalar_of, verdict_of, count_of, few, Filled, Wrote, Answers}
+use Rattle.numbers.specs.Refusals.{refusal_number, outcome_of, verdict_of, count_of, few, Filled, Wrote, Answers}
 
 -- ---- a return: what was given so far, and what follows; or the refusal
 pub bind_next : {A B : Type 0} {a : A} {o : Outcome A} {z : Outcome B} (k : A → Outcome B) → gave a ≡ o → z ≡ k a → z ≡ bind o k
@@ -28,20 +23,20 @@ pub bind_stop : {A B : Type 0} {n : ℕ} {o : Outcome A} (k : A → Outcome B) �
 bind_stop k e = rw (← e)
 
 -- ---- what a leaf that writes a list returns: a refusal with the lent list as it was, or the list at its front
-pub fills_none : {A : Type 0} {o : Outcome (List A)} {n : ℕ} {q : Refusal} {w : List A} → refused (refusal_number q) ≡ o → Filled o n (verdict.Refused q) w w
+pub fills_none : {A : Type 0} {o : Outcome (List A)} {n : ℕ} {q : Refusal} {w : List A} → refused (refusal_number q) ≡ o → Filled o n (Err q) w w
 fills_none {A} {o} {n} {q} {w} e = record { is = e; out = rw (← e) }
 
-pub fills : {A : Type 0} {o : Outcome (List A)} {n : ℕ} {w w' : List A} (l : List A) → gave l ≡ o → length l ≡ n → w' ≡ l ++ drop (length l) w → Filled o n verdict.Taken w w'
+pub fills : {A : Type 0} {o : Outcome (List A)} {n : ℕ} {w w' : List A} (l : List A) → gave l ≡ o → length l ≡ n → w' ≡ l ++ drop (length l) w → Filled o n (Ok tt) w w'
 fills {A} {o} {n} {w} {w'} l e h k =
     record {
       is = let z : take n w' ≡ l = rw k (take_at l (drop (length l) w) n h) in rw z e;
       out = rw (← e) k;
     }
 
-pub writes_none : {A : Type 0} {o : Outcome (List A)} {q : Refusal} {w : List A} → refused (refusal_number q) ≡ o → Wrote o (count.Refused q) w w
+pub writes_none : {A : Type 0} {o : Outcome (List A)} {q : Refusal} {w : List A} → refused (refusal_number q) ≡ o → Wrote o (Err q) w w
 writes_none {A} {o} {q} {w} e = record { is = e; out = rw (← e); room = omega arith }
 
-pub writes : {A : Type 0} {o : Outcome (List A)} {n : ℕ} {w w' : List A} (l : List A) → gave l ≡ o → length l ≡ n → w' ≡ l ++ drop (length l) w → Wrote o (count.Of n) w w'
+pub writes : {A : Type 0} {o : Outcome (List A)} {n : ℕ} {w w' : List A} (l : List A) → gave l ≡ o → length l ≡ n → w' ≡ l ++ drop (length l) w → Wrote o (Ok n) w w'
 writes {A} {o} {n} {w} {w'} l e h k =
     record {
       is = let z : take n w' ≡ l = rw k (take_at l (drop (length l) w) n h) in rw z e;
@@ -50,22 +45,22 @@ writes {A} {o} {n} {w} {w'} l e h k =
     }
 
 -- the count of what is written, worked out
-pub filled_count : {A : Type 0} {o : Outcome (List A)} {m n : ℕ} {r : Verdict} {w w' : List A} → m ≡ n → Filled o m r w w' → Filled o n r w w'
+pub filled_count : {A : Type 0} {o : Outcome (List A)} {m n : ℕ} {r : Result Unit Refusal} {w w' : List A} → m ≡ n → Filled o m r w w' → Filled o n r w w'
 filled_count e f = rw e at f
 
 -- ---- what a leaf that answers a verdict beside a value returns
-pub answers_none : {A : Type 0} {none : A} {o : Outcome A} {q : Refusal} → refused (refusal_number q) ≡ o → Answers none o (verdict.Refused q) none
+pub answers_none : {A : Type 0} {none : A} {o : Outcome A} {q : Refusal} → refused (refusal_number q) ≡ o → Answers none o (Err q) none
 answers_none e = record { is = e; value = rw (← e) }
 
-pub answers : {A : Type 0} {none a : A} {o : Outcome A} → gave a ≡ o → Answers none o verdict.Taken a
+pub answers : {A : Type 0} {none a : A} {o : Outcome A} → gave a ≡ o → Answers none o (Ok tt) a
 answers e = record { is = e; value = rw (← e) }
 
 -- ---- a verdict beside another value, or beside none
-pub verdict_map : {A B : Type 0} (h : A → B) (r : Verdict) (a : A) → verdict_of r (h a) ≡ bind (verdict_of r a) (λ z. gave (h z))
-verdict_map h verdict.Taken a = refl
-verdict_map h (verdict.Refused q) a = refl
+pub verdict_map : {A B : Type 0} (h : A → B) (r : Result Unit Refusal) (a : A) → verdict_of r (h a) ≡ bind (verdict_of r a) (λ z. gave (h z))
+verdict_map h (Ok tt) a = refl
+verdict_map h (Err q) a = refl
 
-pub verdict_alone : {A : Type 0} {o : Outcome A} (r : Verdict) (a : A) → verdict_of r a ≡ o → verdict_of r (tt {0}) ≡ bind o (λ z. gave tt)
+pub verdict_alone : {A : Type 0} {o : Outcome A} (r : Result Unit Refusal) (a : A) → verdict_of r a ≡ o → verdict_of r (tt {0}) ≡ bind o (λ z. gave tt)
 verdict_alone r a e = rw (← e) (verdict_map (λ z. tt) r a)
 
 pub bind-map : {A B C : Type 0} (o : Outcome A) (h : A → B) (c : C) → bind (bind o (λ a. gave (h a))) (λ b. gave c) ≡ bind o (λ a. gave c)
@@ -73,45 +68,45 @@ bind-map (refused n) h c = refl
 bind-map (gave a) h c = refl
 
 -- ---- an answer's case, as a match finds it
-module _ {o : Outcome Float} {r : Scalar} (a : scalar_of r ≡ o) where
-  pub value_is : {x : Float} → r ≡ scalar.Value x → gave x ≡ o
+module _ {o : Outcome Float} {r : Result Float Refusal} (a : outcome_of r ≡ o) where
+  pub value_is : {x : Float} → r ≡ Ok x → gave x ≡ o
   value_is e = rw e at a
 
-  pub value_refused : {q : Refusal} → r ≡ scalar.Refused q → refused (refusal_number q) ≡ o
+  pub value_refused : {q : Refusal} → r ≡ Err q → refused (refusal_number q) ≡ o
   value_refused e = rw e at a
 
-module _ {A : Type 0} {o : Outcome A} {r : Verdict} (x : A) (a : verdict_of r x ≡ o) where
-  pub taken_is : r ≡ verdict.Taken → gave x ≡ o
+module _ {A : Type 0} {o : Outcome A} {r : Result Unit Refusal} (x : A) (a : verdict_of r x ≡ o) where
+  pub taken_is : r ≡ (Ok tt) → gave x ≡ o
   taken_is e = rw e at a
 
-  pub taken_refused : {q : Refusal} → r ≡ verdict.Refused q → refused (refusal_number q) ≡ o
+  pub taken_refused : {q : Refusal} → r ≡ Err q → refused (refusal_number q) ≡ o
   taken_refused e = rw e at a
 
-module _ {A : Type 0} {o : Outcome (List A)} {n : ℕ} {r : Verdict} {w w' : List A} (a : Filled o n r w w') where
-  pub filled_is : (m : ℕ) → n ≡ m → r ≡ verdict.Taken → gave (take m w') ≡ o
+module _ {A : Type 0} {o : Outcome (List A)} {n : ℕ} {r : Result Unit Refusal} {w w' : List A} (a : Filled o n r w w') where
+  pub filled_is : (m : ℕ) → n ≡ m → r ≡ (Ok tt) → gave (take m w') ≡ o
   filled_is m e h = let k : verdict_of r (take n w') ≡ o = a.is in rw (← e) (rw h at k)
 
-  pub filled_refused : {q : Refusal} → r ≡ verdict.Refused q → refused (refusal_number q) ≡ o
+  pub filled_refused : {q : Refusal} → r ≡ Err q → refused (refusal_number q) ≡ o
   filled_refused e = let k : verdict_of r (take n w') ≡ o = a.is in rw e at k
 
 -- a list that is filled whole, m of them
-module _ {A : Type 0} {n : ℕ} {r : Verdict} {w w' : List A} (o : ℕ → Outcome (List A)) (m : ℕ) (a : Filled (o (length w)) n r w w') (long : length w ≡ m) where
-  pub whole_is : n ≡ m → length w' ≡ length w → r ≡ verdict.Taken → gave w' ≡ o m
+module _ {A : Type 0} {n : ℕ} {r : Result Unit Refusal} {w w' : List A} (o : ℕ → Outcome (List A)) (m : ℕ) (a : Filled (o (length w)) n r w w') (long : length w ≡ m) where
+  pub whole_is : n ≡ m → length w' ≡ length w → r ≡ (Ok tt) → gave w' ≡ o m
   whole_is e h t =
       let k : length w' ≤ m = omega (arith, long, h) in
       ap (λ z. gave z) (sym (take_all m w' k)) ∙ filled_is a m e t ∙ ap o long
 
-  pub whole_refused : {q : Refusal} → r ≡ verdict.Refused q → refused (refusal_number q) ≡ o m
+  pub whole_refused : {q : Refusal} → r ≡ Err q → refused (refusal_number q) ≡ o m
   whole_refused t = filled_refused a t ∙ ap o long
 
-module _ {A : Type 0} {o : Outcome (List A)} {r : Count} {w w' : List A} (a : Wrote o r w w') where
-  pub count_is : {n : ℕ} → r ≡ count.Of n → gave (take n w') ≡ o
+module _ {A : Type 0} {o : Outcome (List A)} {r : Result ℕ Refusal} {w w' : List A} (a : Wrote o r w w') where
+  pub count_is : {n : ℕ} → r ≡ Ok n → gave (take n w') ≡ o
   count_is e = let k : count_of r w' ≡ o = a.is in rw e at k
 
-  pub count_refused : {q : Refusal} → r ≡ count.Refused q → refused (refusal_number q) ≡ o
+  pub count_refused : {q : Refusal} → r ≡ Err q → refused (refusal_number q) ≡ o
   count_refused e = let k : count_of r w' ≡ o = a.is in rw e at k
 
-  pub count_room : {n : ℕ} → r ≡ count.Of n → n ≤ length w'
+  pub count_room : {n : ℕ} → r ≡ Ok n → n ≤ length w'
   count_room e = let k : few r ≤ length w' = a.room in rw e at k
 
 pub ruleset chains = (rules, bind_next, bind_stop, value_is, value_refused, taken_is, taken_refused, filled_is, filled_refused, count_is, count_refused)

@@ -1,75 +1,40 @@
 #![tactic(auto)]
 
-ghost use Rattle.std.specs.Prelude.{◌≡◌, not, pos, ◌<◌, ◌≤◌, ◌++◌, length, get_or, drop, replicate};
+ghost use Rattle.std.specs.Prelude.{ℕ, Float, ◌≡◌, not, pos, ◌<◌, ◌≤◌, ◌++◌, length, get_or, drop, replicate};
 ghost use Rattle.std.specs.Float.{nan, binary64};
 ghost use Rattle.std.specs.Float.Ieee.{of_int};
 ghost use Rattle.std.specs.Float.Ieee.Scale.{finite};
 ghost use Rattle.numbers.specs.Floats.{sign, fault_of, all_finite, magnitude_of, normal, lesser, clamp};
-ghost use Rattle.numbers.specs.Refusals.{refusal_number, scalar_of, Filled};
-ghost use Rattle.numbers.specs.Outcome.{needed_of, needed_list_of};
+ghost use Rattle.numbers.specs.Refusals.{refusal_number, outcome_of, verdict_of, Filled, Gives};
+ghost use Rattle.numbers.specs.Outcome.{Outcome, needed_of, needed_list_of, gather};
 ghost use Rattle.numbers.specs.Words.{of_word, to_word};
 
 // Why a call is refused: the table of document 01, numbers 1 to 15.
-#[derive(Clone, Copy)]
+#[derive(Clone, Copy, PartialEq, Eq)]
 pub enum Refusal {
-    Room,
-    Slot,
-    State,
-    Words,
-    Request,
-    Bands,
-    Response,
-    Edges,
-    NotFinite,
-    Derivative,
-    Balancing,
-    Roots,
-    Extrema,
-    Layout,
-    Lists,
-}
-
-// One number, or why there is none.
-#[derive(Clone, Copy)]
-pub enum Scalar {
-    Value(f64),
-    Refused(Refusal),
-}
-
-// The answer of a leaf that checks what it is given, or that writes a list: taken, or refused and nothing written.
-#[derive(Clone, Copy)]
-pub enum Verdict {
-    Taken,
-    Refused(Refusal),
-}
-
-// The answer of a leaf that writes a list whose length is part of the answer.
-#[derive(Clone, Copy)]
-pub enum Count {
-    Of(usize),
-    Refused(Refusal),
+    Room = 1,
+    Slot = 2,
+    State = 3,
+    Words = 4,
+    Request = 5,
+    Bands = 6,
+    Response = 7,
+    Edges = 8,
+    NotFinite = 9,
+    Derivative = 10,
+    Balancing = 11,
+    Roots = 12,
+    Extrema = 13,
+    Layout = 14,
+    Lists = 15,
 }
 
 // Document 01's number of a refusal.
-pub fn number(r: Refusal) -> u64
-    ensures { result ≡ refusal_number r }
-{
-    match r {
-        Refusal::Room => 1,
-        Refusal::Slot => 2,
-        Refusal::State => 3,
-        Refusal::Words => 4,
-        Refusal::Request => 5,
-        Refusal::Bands => 6,
-        Refusal::Response => 7,
-        Refusal::Edges => 8,
-        Refusal::NotFinite => 9,
-        Refusal::Derivative => 10,
-        Refusal::Balancing => 11,
-        Refusal::Roots => 12,
-        Refusal::Extrema => 13,
-        Refusal::Layout => 14,
-        Refusal::Lists => 15,
+impl From<Refusal> for u64 {
+    ghost from_gives = { λ r n. n ≡ refusal_number r };
+
+    fn from(r: Refusal) -> u64 {
+        r as u64
     }
 }
 
@@ -77,17 +42,17 @@ pub fn number(r: Refusal) -> u64
 pub fn is_finite(x: f64) -> bool
     ensures { result ≡ finite x }
 {
-    if x < 1.0 / 0.0 { -1.0 / 0.0 < x } else { false }
+    x < 1.0 / 0.0 && -1.0 / 0.0 < x
 }
 
 // A needed number: refusal 9 where it is not finite.
-pub fn needed(x: f64) -> Scalar
-    ensures { scalar_of result ≡ needed_of x }
+pub fn needed(x: f64) -> Result<f64, Refusal>
+    ensures { outcome_of result ≡ needed_of x }
 {
     if is_finite(x) {
-        Scalar::Value(x)
+        Ok(x)
     } else {
-        Scalar::Refused(Refusal::NotFinite)
+        Err(Refusal::NotFinite)
     }
 }
 
@@ -103,38 +68,40 @@ pub fn all_finite(xs: &[f64]) -> bool
     ensures { result ≡ all_finite xs.now }
 {
     let mut faults: u64 = 0;
-    let mut i = 0;
-    while i < xs.len() {
-        faults = faults + fault(xs[i]);
-        i += 1;
+    for &x in xs {
+        faults += fault(x);
     }
     faults == 0
 }
 
-fn copy_into(src: &[f64], out: &mut [f64])
-    requires { length src.now ≤ length out.old }
-    ensures { out.new ≡ src.now ++ drop (length src.now) out.old }
-{
-    let mut k = 0;
-    while k < src.len() {
-        out[k] = src[k];
-        k += 1;
-    }
-}
-
 // A leaf's finished list, written to the front of a lent one: refusal 15 where that is too short, 9 where a number is not
 // finite, and then nothing is written.
-pub fn needed_list(src: &[f64], out: &mut [f64]) -> Verdict
+pub fn needed_list(src: &[f64], out: &mut [f64]) -> Result<(), Refusal>
     ensures { Filled (needed_list_of src.now (length out.old)) (length src.now) result out.old out.new }
 {
     if out.len() < src.len() {
-        return Verdict::Refused(Refusal::Lists);
+        return Err(Refusal::Lists);
     }
     if !all_finite(src) {
-        return Verdict::Refused(Refusal::NotFinite);
+        return Err(Refusal::NotFinite);
     }
-    copy_into(src, out);
-    Verdict::Taken
+    out[..src.len()].copy_from_slice(src);
+    Ok(())
+}
+
+// What `at` gives for each place in turn, into a list of as many; the first refusal ends it.
+pub fn fill_with<F: Fn(usize) -> Result<f64, Refusal>>(
+    out: &mut [f64],
+    at: F,
+) -> Result<(), Refusal>
+    requires { (k : ℕ) → k < length out.old → F.pre at k }
+    ensures outcome { (g : ℕ → Outcome Float) → Gives (length out.old) (F.post at) g → verdict_of result out.new ≡ gather g (length out.old) 0 }
+    ensures length { length out.new ≡ length out.old }
+{
+    for i in 0..out.len() {
+        out[i] = at(i)?;
+    }
+    Ok(())
 }
 
 // The number without its sign, that of -0.0 too; a NaN stays one.
@@ -149,11 +116,7 @@ pub fn is_normal(x: f64) -> bool
     ensures { result ≡ normal x }
 {
     let m = magnitude(x);
-    if 2.2250738585072014e-308 <= m {
-        m <= 1.7976931348623157e308
-    } else {
-        false
-    }
+    2.2250738585072014e-308 <= m && m <= 1.7976931348623157e308
 }
 
 // The smaller of two: the first where they are equal, and where one is a NaN.
@@ -209,12 +172,9 @@ pub fn is_sign_clear(x: f64) -> bool
 }
 
 // The words become zero.
+// Kept: what may not change: docs/PROMISES.md names `wipe`.
 pub fn wipe(words: &mut [u64])
     ensures { words.new ≡ replicate (length words.old) 0 }
 {
-    let mut i = 0;
-    while i < words.len() {
-        words[i] = 0;
-        i += 1;
-    }
+    words.fill(0);
 }

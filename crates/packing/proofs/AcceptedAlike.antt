@@ -10,7 +10,7 @@ use Rattle.bands.specs.Rules.{plan_holds}
 use Rattle.barycentric.specs.Weights.{weights_for}
 use Rattle.barycentric.specs.Delta.{delta_for}
 use Rattle.barycentric.specs.Abscissas.{abscissas_for}
-use Rattle.fir_types.specs.declared.edges.Edges.{Edges}
+use Rattle.fir_types.specs.Edges.{Edges}
 use Rattle.fir_types.specs.declared.edges.Interval.{Interval}
 use Rattle.fir_types.specs.Realizable.{realizable, realizable_for}
 use Rattle.fir_types.specs.Edges.{packed, adjusted, adjusted_for}

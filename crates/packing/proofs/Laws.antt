@@ -5,14 +5,10 @@ use mathlib.Core.Bool.{Bool, true, false, cond}
 use mathlib.Core.List.{List, ◌++◌, append-nil, append_assoc}
 use native.Mathlib.Omega.{arith}
 use borrow.Author.Tests.{lt-ltb}
-use lib.ListN.{length, get_or, take, drop, drop_of_length-le, length-append, length-drop}
+use lib.ListN.{length, take, drop, drop_of_length-le, length-append, length-drop}
 use lib.Seq.{take_at, drop_at}
-use lib.Ieee.{Float, nan, inf, fin, binary64, div, of_bits, is_nan}
+use lib.Ieee.{Float, nan, inf, fin, binary64, of_bits, is_nan}
 use lib.Ieee.Bits.{nan_bits_is, nan_bits_above}
-use Rattle.numbers.specs.Floats.{zero64}
-use Rattle.numbers.specs.Loops.{tab}
-use Rattle.numbers.proofs.LoopLaws.{Going, put, fill_start}
-use Rattle.numbers.proofs.Lanes.{tab-own}
 use Rattle.bands.specs.declared.Symmetry.{Symmetry}
 use Rattle.bands.specs.declared.Symmetry.TheVariants.{Even, Odd}
 use Rattle.fir_types.specs.Kinds.{is_odd, functions}
@@ -23,11 +19,7 @@ the_nan nan e = refl
 the_nan (inf s) e = absurd (let z : ◌≡◌ {A = ℕ} 0 1 = cc in omega arith)
 the_nan (fin s m x) e = absurd (let z : ◌≡◌ {A = ℕ} 0 1 = cc in omega arith)
 
--- there is one NaN: 0 / 0 gives it, and every pattern of one reads as it
-pub zero_by_zero : div binary64 zero64 zero64 ≡ nan
-unfolding div of_bits
-zero_by_zero = refl
-
+-- there is one NaN: every pattern of one reads as it
 pub nan_bits : (w : ℕ) → 0x7ff0_0000_0000_0000 < w % 0x8000_0000_0000_0000 → nan ≡ of_bits binary64 w
 nan_bits w h = the_nan (of_bits binary64 w) (sym (nan_bits_is binary64 w) ∙ nan_bits_above binary64 w ∙ lt-ltb _ _ h)
 
@@ -40,21 +32,10 @@ functions-few taps Even = go (is_odd taps)
     go false = omega arith
 functions-few taps Odd = omega arith
 
--- a loop that fills a whole list
-pub whole_start : {A : Type 0} (g : ℕ → A) (n : ℕ) (o : List A) → length o ≡ n → Going (put g) n 0 o (tab g n 0)
-whole_start g n o h =
-    let l : n ≤ length o = omega arith in
-    let k : length o ≤ n = omega arith in
-    rw (drop_of_length-le o {i = n} k, append-nil) at (fill_start g n o l)
-
--- a loop that copies a whole list
-pub copy_whole : {A : Type 0} (l : List A) (d : A) (o : List A) → length o ≡ length l → Going (put (λ k. get_or l k d)) (length l) 0 o l
-copy_whole l d o h = rw (← tab-own l d (length l) refl) at (whole_start (λ k. get_or l k d) (length l) o h)
-
 -- ---- three parts that are written one after the other fill the words
 module _ (w a b : List ℕ) (long : length w ≡ 137) (na : length a ≡ 8) (nb : length b ≡ 64) where
   abbrev one : List ℕ
-  one = take 0 w ++ (a ++ drop 8 (drop 0 w))
+  one = a ++ drop 8 w
 
   abbrev two : List ℕ
   two = take 8 one ++ (b ++ drop 64 (drop 8 one))

@@ -1,4 +1,5 @@
 -- Fields that are read from words hold numbers of binary64, whatever the words. Assumes nothing.
+use Rattle.bands.specs.Numbered.{value_of}
 use Prim.Native.Nat.{ℕ, ◌+◌}
 use mathlib.Core.Path.{sym, subst}
 use mathlib.Core.Bool.{Bool, true, false, cond}
@@ -11,7 +12,7 @@ use Rattle.numbers.proofs.Lanes.{tab-get}
 use Rattle.bands.specs.declared.Value.TheVariants.{Constant, Linear}
 use Rattle.bands.specs.declared.Band.{Band}
 use Rattle.bands.specs.Lookup.{no_band}
-use Rattle.packing.specs.Packing.{at, number, threshold_at, flatness_at, band_at, point_at, value_of, band_in, fields_of}
+use Rattle.packing.specs.Packing.{at, number, threshold_at, flatness_at, band_at, point_at, band_in, fields_of}
 use Rattle.packing.specs.Alike.{ValueFits, BandFits, Stored}
 
 value_fits : (kind a b : ℕ) → ValueFits (value_of kind (of_bits binary64 a) (of_bits binary64 b))

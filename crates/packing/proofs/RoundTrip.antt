@@ -1,5 +1,6 @@
 -- The words of an accepted job hold the job: the fields read from them are the job's, but for the bands beyond its count and the points
 -- beyond those it holds, and packing them gives the same words. Assumes nothing.
+use Rattle.bands.specs.Numbered.{symmetry_of, symmetry_word, value_of}
 use Prim.Native.Nat.{ℕ, ◌+◌, ◌<◌, ◌≤◌}
 use mathlib.Core.Path.{◌≡◌, refl, sym, ap, ◌∙◌}
 use mathlib.Core.Bool.{Bool, true, false, ◌&&◌, cond}
@@ -31,7 +32,7 @@ use Rattle.fields.specs.declared.held.Fields.{Fields}
 use Rattle.fields.specs.Request.{points_of}
 use Rattle.fields.specs.Interpolant.{Interpolation}
 use Rattle.fields.specs.Accept.{accept_of}
-use Rattle.packing.specs.Packing.{at, band_at, point_at, symmetry_word, symmetry_of, kind_word, first_word, second_word, value_of, band_words, band_in, number, points_held, words_of, fields_of}
+use Rattle.packing.specs.Packing.{at, band_at, point_at, kind_word, first_word, second_word, band_words, band_in, number, points_held, words_of, fields_of}
 use Rattle.packing.specs.Alike.{ValueFits, BandFits, Stored, Alike}
 use Rattle.packing.proofs.Sound.{Sound, sound}
 use Rattle.packing.proofs.Places.{band_word_lem, point_word_lem, words_alike}

@@ -22,7 +22,7 @@ use Rattle.bands.specs.declared.Plan.{Plan}
 use Rattle.bands.specs.Lookup.{band_of}
 use Rattle.bands.specs.Rules.{band_holds, apart, plan_holds}
 use Rattle.angles.specs.Arccosine.{arccosine_of}
-use Rattle.fir_types.specs.declared.edges.Edges.{Edges}
+use Rattle.fir_types.specs.Edges.{Edges}
 use Rattle.fir_types.specs.declared.edges.Interval.{Interval}
 use Rattle.fir_types.specs.Kinds.{least_taps, most_taps, taps_in_range}
 use Rattle.fir_types.specs.Realizable.{realizable, realizable_for}

@@ -1,5 +1,6 @@
 -- What a job's image holds, as 137 words in the image's order: a slot keeps these words, and the image's bytes are made from them. A
 -- number is its bits, a constant repeats its number's, and what is not there is zero.
+use Rattle.bands.specs.Numbered.{symmetry_of, symmetry_word, value_of}
 use Rattle.std.specs.Prelude.{ℕ, ◌+◌, ◌*◌, ◌/◌, ◌%◌, cond, List, [], ◌∷◌, ◌++◌, eqb, ltb, get_or, Float}
 use Rattle.std.specs.Float.{nan, binary64}
 use Rattle.std.specs.Float.Ieee.{of_bits}
@@ -12,9 +13,9 @@ use Rattle.bands.specs.declared.Value.TheVariants.{Constant, Linear}
 use Rattle.bands.specs.declared.Band.{Band}
 use Rattle.bands.specs.declared.Plan.{Plan}
 use Rattle.bands.specs.Lookup.{band_of}
+use Rattle.fir_types.specs.Kinds.{functions}
 use Rattle.fields.specs.declared.request.Request.{Request}
 use Rattle.fields.specs.declared.held.Fields.{Fields}
-use Rattle.fields.specs.Request.{points_of}
 
 -- ---- where the words stand
 abbrev pub symmetry_at : ℕ
@@ -48,11 +49,6 @@ band_at i = 8 + 8 * i
 abbrev pub point_at : ℕ → ℕ
 point_at i = 72 + i
 
--- ---- from fields to words
-abbrev pub symmetry_word : Symmetry → ℕ
-symmetry_word Even = 0
-symmetry_word Odd = 1
-
 abbrev pub kind_word : Value → ℕ
 kind_word (Constant a) = 0
 kind_word (Linear a b) = 1
@@ -75,8 +71,11 @@ abbrev pub bands_word : Plan → ℕ → ℕ → ℕ
 bands_word p i k = cond (ltb i p.count) (get_or (band_words (band_of p i)) k 0) 0
 
 -- how many points the image holds: none when no exchange was made, else all
+abbrev pub points_for : ℕ → ℕ → Symmetry → ℕ
+points_for made taps s = cond (eqb made 0) 0 (functions taps s + 1)
+
 abbrev pub points_held : Fields → ℕ
-points_held j = cond (eqb j.made 0) 0 (points_of j.request)
+points_held j = points_for j.made j.request.taps j.request.symmetry
 
 abbrev pub point_word : Fields → ℕ → ℕ
 point_word j i = cond (ltb i (points_held j)) (to_word (get_or j.points i nan)) 0
@@ -95,12 +94,6 @@ at w i = get_or w i 0
 
 abbrev pub number : List ℕ → ℕ → Float
 number w i = of_bits binary64 (at w i)
-
-abbrev pub symmetry_of : ℕ → Symmetry
-symmetry_of n = cond (eqb n 0) Even Odd
-
-abbrev pub value_of : ℕ → Float → Float → Value
-value_of kind a b = cond (eqb kind 0) (Constant a) (Linear a b)
 
 abbrev pub band_in : List ℕ → ℕ → Band
 band_in w i =

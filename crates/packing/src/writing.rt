@@ -2,62 +2,39 @@ ghost use Rattle.std.specs.Prelude.{◌≡◌, cond, ◌<◌, ◌/◌, ◌%◌, 
 ghost use Rattle.std.specs.Float.{nan};
 ghost use Rattle.numbers.specs.Loops.{tab};
 ghost use Rattle.numbers.specs.Words.{to_word};
-ghost use Rattle.packing.specs.Packing.{symmetry_word, kind_word, first_word, second_word, band_words, bands_word, points_held, point_word, head_words};
+ghost use Rattle.packing.specs.Packing.{kind_word, first_word, second_word, band_words, bands_word, points_for, point_word, head_words};
 
 use bands::{Band, Plan, Symmetry, Value};
 use fields::Fields;
+use std::array;
 
-fn symmetry_word(s: Symmetry) -> u64
-    ensures { result ≡ symmetry_word s }
-{
-    match s {
-        Symmetry::Even => 0,
-        Symmetry::Odd => 1,
-    }
-}
-
-fn kind_word(v: Value) -> u64
-    ensures { result ≡ kind_word v }
+// A value's kind, and its two numbers' bits: a constant repeats its number's.
+fn value_words(v: Value) -> (u64, u64, u64)
+    ensures { (result.0 ≡ kind_word v) × (result.1 ≡ first_word v) × (result.2 ≡ second_word v) }
 {
     match v {
-        Value::Constant(_) => 0,
-        Value::Linear(_, _) => 1,
-    }
-}
-
-fn first_word(v: Value) -> u64
-    ensures { result ≡ first_word v }
-{
-    match v {
-        Value::Constant(a) => numbers::to_word(a),
-        Value::Linear(a, _) => numbers::to_word(a),
-    }
-}
-
-// A constant repeats its number's bits.
-fn second_word(v: Value) -> u64
-    ensures { result ≡ second_word v }
-{
-    match v {
-        Value::Constant(a) => numbers::to_word(a),
-        Value::Linear(_, b) => numbers::to_word(b),
+        Value::Constant(a) => {
+            let w = numbers::to_word(a);
+            (0, w, w)
+        }
+        Value::Linear(a, b) => (1, numbers::to_word(a), numbers::to_word(b)),
     }
 }
 
 fn band_words(b: Band) -> [u64; 8]
     ensures { result ≡ band_words b }
 {
-    let desired = b.desired;
-    let weight = b.weight;
+    let (desired_kind, desired_first, desired_second) = value_words(b.desired);
+    let (weight_kind, weight_first, weight_second) = value_words(b.weight);
     [
-        kind_word(desired),
-        kind_word(weight),
+        desired_kind,
+        weight_kind,
         numbers::to_word(b.begin),
         numbers::to_word(b.end),
-        first_word(desired),
-        second_word(desired),
-        first_word(weight),
-        second_word(weight),
+        desired_first,
+        desired_second,
+        weight_first,
+        weight_second,
     ]
 }
 
@@ -66,9 +43,7 @@ fn bands_word(plan: Plan, i: usize, k: usize) -> u64
     ensures { result ≡ bands_word plan i k }
 {
     if i < plan.count {
-        let b = plan.bands[i];
-        let words = band_words(b);
-        words[k]
+        band_words(plan.bands[i])[k]
     } else {
         0
     }
@@ -77,23 +52,17 @@ fn bands_word(plan: Plan, i: usize, k: usize) -> u64
 pub(crate) fn bands_words(plan: Plan) -> [u64; 64]
     ensures { result ≡ tab (λ k. bands_word plan (k / 8) (k % 8)) 64 0 }
 {
-    let mut out = [0; 64];
-    let mut k: usize = 0;
-    while k < 64 {
-        out[k] = bands_word(plan, k / 8, k % 8);
-        k += 1;
-    }
-    out
+    array::from_fn(|k| bands_word(plan, k / 8, k % 8))
 }
 
-fn points_held(fields: Fields) -> usize
-    ensures { result ≡ points_held fields }
+// How many points an image holds: none where no exchange was made, else one more than the taps have functions.
+pub fn points_for(made: usize, taps: usize, symmetry: Symmetry) -> usize
+    ensures { result ≡ points_for made taps symmetry }
 {
-    if fields.made == 0 {
-        return 0;
+    match made {
+        0 => 0,
+        _ => fir_types::functions_of(taps, symmetry) + 1,
     }
-    let request = fields.request;
-    request.functions() + 1
 }
 
 fn point_word(points: &[f64; 65], held: usize, i: usize) -> u64
@@ -110,30 +79,21 @@ fn point_word(points: &[f64; 65], held: usize, i: usize) -> u64
 pub(crate) fn points_words(fields: Fields) -> [u64; 65]
     ensures { result ≡ tab (point_word fields) 65 0 }
 {
-    let points = fields.points;
-    let held = points_held(fields);
-    let mut out = [0; 65];
-    let mut i: usize = 0;
-    while i < 65 {
-        out[i] = point_word(&points, held, i);
-        i += 1;
-    }
-    out
+    let held = points_for(fields.made, fields.request.taps, fields.request.symmetry);
+    array::from_fn(|i| point_word(&fields.points, held, i))
 }
 
 pub(crate) fn head_words(fields: Fields) -> [u64; 8]
     ensures { result ≡ head_words fields }
 {
     let request = fields.request;
-    let symmetry = request.symmetry;
-    let plan = request.plan;
     [
-        symmetry_word(symmetry),
+        u64::from(request.symmetry),
         request.taps as u64,
         request.degree as u64,
         request.exchanges as u64,
         fields.made as u64,
-        plan.count as u64,
+        request.plan.count as u64,
         numbers::to_word(request.threshold),
         numbers::to_word(fields.flatness),
     ]

@@ -1,53 +1,31 @@
 -- A gap that is closed by moving entries down, and what goes with it: an end, or the weakest pair. Assumes nothing.
 use Prim.Native.Nat.{ℕ, zero, suc, ◌+◌, ◌-◌, ◌/◌, ◌%◌, ◌≤◌, ◌<◌}
 use mathlib.Core.Path.{◌≡◌, refl, ap, sym, ◌∙◌}
-use mathlib.Core.List.{List, [], ◌∷◌, ◌++◌, append_assoc, append-nil}
+use mathlib.Core.List.{List, [], ◌∷◌, ◌++◌}
 use mathlib.Core.Bool.{Bool, true, false, cond}
-use native.Mathlib.Numerals.{add-one}
 use native.Mathlib.Nat.{not-suc-le-zero}
 use native.Mathlib.Omega.{arith}
 use borrow.Author.Tests.{le-leb, lt-leb, eq-eqb, ne_eqb}
-use lib.ListN.{length, set, get_or, take, drop, drop_of_length-le}
-use lib.Seq.{drop-cons, take-suc-set, get_or-take, length-take-le, take-set-lt, drop-set-lt, take-take}
+use lib.ListN.{length, get_or, take, drop}
+use lib.Seq.{get_or-take, length-take-le, take-take, take-paste}
 use lib.Ieee.{Float, le}
+use Rattle.std.specs.List.{copy_within}
+use Rattle.std.proofs.lemmas.List.{drop-take, length-drop}
 use Rattle.numbers.specs.Outcome.{refused, gave}
 use Rattle.pruning.specs.Prune.{without, drop_pair, weakest, without_pairs, last_from, without_end, cut, runs, prune}
 use Rattle.pruning.proofs.Kept.{weakest_in}
 
--- ---- of the first n of l those from k + gap on are still to be moved down to k
-pub record Closing {A : Type 0} (n k gap : ℕ) (l r : List A) : Type 0 where
-  pub within : k + gap ≤ n
-  pub rest : take k l ++ drop (k + gap) (take n l) ≡ r
-
-module _ {A : Type 0} {n gap : ℕ} where
-  pub close_start : {i : ℕ} {l : List A} → i + gap ≤ n → Closing n i gap l (without i gap (take n l))
-  close_start {i} {l} h = record { within = h; rest = rw (take-take i n l (omega arith)) }
-
-  module _ {k : ℕ} {l r : List A} (fits : n ≤ length l) (a : Closing n k gap l r) where
-    pub close_next : (d : A) → k + gap < n → Closing n (k + 1) gap (set l k (get_or l (k + gap) d)) r
-    close_next d h =
-        let e : k + 1 + gap ≡ k + gap + 1 = omega arith in
-        let g : drop (k + gap) (take n l) ≡ get_or l (k + gap) d ∷ drop (k + gap + 1) (take n l) =
-        rw (drop-cons (take n l) (k + gap) d (omega (arith, length-take-le n l fits)), get_or-take n l (k + gap) d h, add-one (k + gap)) in
-        record {
-          within = omega arith;
-          rest =
-              rw (
-                take-set-lt n l k (get_or l (k + gap) d) (omega arith),
-                drop-set-lt (k + 1 + gap) (take n l) k (get_or l (k + gap) d) (omega arith),
-                e,
-                add-one k,
-                take-suc-set l k (get_or l (k + gap) d) (omega arith),
-                append_assoc,
-              )
-              (rw g at a.rest);
-        }
-
-    pub close_end : n ≤ k + gap → take (n - gap) l ≡ r
-    close_end h =
-        let w : k + gap ≤ n = a.within in
-        let e : k ≡ n - gap = omega arith in
-        rw (drop_of_length-le (take n l) {i = k + gap} (omega (arith, length-take-le n l fits)), append-nil, e) at a.rest
+-- ---- of the first n of l those from i + gap on moved down to i
+pub closed : {A : Type 0} (n i gap : ℕ) (l : List A) → i + gap ≤ n → n ≤ length l → take (n - gap) (copy_within l (i + gap) n i) ≡ without i gap (take n l)
+closed n i gap l h k =
+    let d : ℕ = n - (i + gap) in
+    let a : n - gap ≡ i + d = omega arith in
+    let b : n ≡ i + gap + d = omega arith in
+    let f : take i (take n l) ≡ take i l = take-take i n l (omega arith) in
+    let g : drop (i + gap) (take n l) ≡ take d (drop (i + gap) l) = ap (λ m. drop (i + gap) (take m l)) b ∙ drop-take (i + gap) d l in
+    ap (λ m. take m (copy_within l (i + gap) n i)) a
+    ∙ take-paste l i (drop (i + gap) l) d (omega arith) (omega (arith, length-drop (i + gap) l))
+    ∙ (λ j. sym f j ++ sym g j)
 
 pair_is : {A : Type 0} (i : ℕ) (l : List A) → i + 2 ≤ length l → drop_pair i l ≡ without i 2 l
 unfolding drop_pair

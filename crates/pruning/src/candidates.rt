@@ -68,28 +68,23 @@ fn insert_at(words: &mut [u64], i: usize)
 {
     let c = raw_at(words, i);
     let x = numbers::of_word(c.x);
-    let mut k = i;
-    while 0 < k {
-        let p = raw_at(words, k - 1);
+    for k in (0..i).rev() {
+        let p = raw_at(words, k);
         if x < numbers::of_word(p.x) {
-            put_raw(words, k, p);
-            k -= 1;
+            put_raw(words, k + 1, p);
         } else {
-            break;
+            put_raw(words, k + 1, c);
+            return;
         }
     }
-    put_raw(words, k, c);
+    put_raw(words, 0, c);
 }
 
 // The first n candidates of the words, or all where they hold fewer, sorted by x; those of one x stay in their order.
 pub fn sort_candidates(words: &mut [u64], n: usize)
     ensures { words.new ≡ sorted_words words.old n }
 {
-    let held = words.len() / 2;
-    let m = if n < held { n } else { held };
-    let mut i: usize = 0;
-    while i < m {
+    for i in 0..n.min(words.len() / 2) {
         insert_at(words, i);
-        i += 1;
     }
 }

@@ -1,10 +1,10 @@
 ghost use Rattle.std.specs.Prelude.{◌≡◌, ◌+◌, ◌-◌, ◌/◌, ◌%◌, ◌<◌, ◌≤◌, ◌++◌, length, get_or, take, drop};
 ghost use Rattle.std.specs.Float.{nan};
 ghost use Rattle.numbers.specs.Refusals.{Filled};
-ghost use Rattle.pruning.specs.Prune.{runs, weakest, without, without_end, without_pairs, cut};
+ghost use Rattle.pruning.specs.Prune.{runs, weakest, without_end, without_pairs, cut};
 ghost use Rattle.pruning.specs.Errors.{negative_at, size_at, places_of, kept_places, sized, prune_for, Fitting};
 
-use numbers::{Refusal, Verdict};
+use numbers::Refusal;
 
 // As many errors as an exchange may have candidates: subintervals times (degree + 1).
 pub const CANDIDATES: usize = 1241;
@@ -13,11 +13,9 @@ pub const CANDIDATES: usize = 1241;
 fn error_at(errors: &[f64], place: u64) -> f64
     ensures { result ≡ get_or errors.now place nan }
 {
-    let i = place as usize;
-    if i < errors.len() {
-        errors[i]
-    } else {
-        0.0 / 0.0
+    match errors.get(place as usize) {
+        Some(&error) => error,
+        None => 0.0 / 0.0,
     }
 }
 
@@ -37,8 +35,7 @@ fn keep_runs(errors: &[f64], kept: &mut [u64]) -> usize
     // The sign and the magnitude at b, so that no turn reads them again.
     let mut below = errors[0] < 0.0;
     let mut largest = numbers::magnitude(errors[0]);
-    let mut i: usize = 1;
-    while i < errors.len() {
+    for i in 1..errors.len() {
         let negative = errors[i] < 0.0;
         let size = numbers::magnitude(errors[i]);
         if below != negative {
@@ -51,7 +48,6 @@ fn keep_runs(errors: &[f64], kept: &mut [u64]) -> usize
             b = i as u64;
             largest = size;
         }
-        i += 1;
     }
     kept[m] = b;
     m + 1
@@ -60,15 +56,15 @@ fn keep_runs(errors: &[f64], kept: &mut [u64]) -> usize
 // Where the earliest of the weakest neighbouring pairs stands, of the first n kept.
 fn weakest_pair(errors: &[f64], kept: &[u64], n: usize) -> usize
     requires { (2 ≤ n) × (n ≤ length kept.now) }
-    ensures { result ≡ weakest (negative_at errors.now) (size_at errors.now) (take n kept.now) }
+    ensures weakest { result ≡ weakest (negative_at errors.now) (size_at errors.now) (take n kept.now) }
+    ensures inside { result + 2 ≤ n }
 {
     let mut best: usize = 0;
     let first = size(errors, kept[0]);
     // The magnitude at k, so that no turn reads it again.
     let mut last = size(errors, kept[1]);
     let mut v = numbers::smaller(first, last);
-    let mut k: usize = 1;
-    while k + 1 < n {
+    for k in 1..n - 1 {
         let next = size(errors, kept[k + 1]);
         let p = numbers::smaller(last, next);
         if p < v {
@@ -76,21 +72,8 @@ fn weakest_pair(errors: &[f64], kept: &[u64], n: usize) -> usize
             v = p;
         }
         last = next;
-        k += 1;
     }
     best
-}
-
-// Of the first n kept, those from i + gap on moved down to i.
-fn close(kept: &mut [u64], n: usize, i: usize, gap: usize)
-    requires { (i + gap ≤ n) × (n ≤ length kept.old) }
-    ensures { take (n - gap) kept.new ≡ without i gap (take n kept.old) }
-{
-    let mut k = i;
-    while k + gap < n {
-        kept[k] = kept[k + gap];
-        k += 1;
-    }
 }
 
 fn drop_end(errors: &[f64], kept: &mut [u64], m: usize)
@@ -100,7 +83,7 @@ fn drop_end(errors: &[f64], kept: &mut [u64], m: usize)
     if size(errors, kept[0]) >= size(errors, kept[m - 1]) {
         return;
     }
-    close(kept, m, 0, 1);
+    kept.copy_within(1..m, 0);
 }
 
 fn drop_pairs(errors: &[f64], kept: &mut [u64], m: usize, n: usize)
@@ -108,9 +91,10 @@ fn drop_pairs(errors: &[f64], kept: &mut [u64], m: usize, n: usize)
     ensures { take n kept.new ≡ without_pairs (negative_at errors.now) (size_at errors.now) ((m - n) / 2) (take m kept.old) }
 {
     let mut k = m;
+    // Kept: no plainer: a pair goes in each turn, so k falls by two.
     while n < k {
         let w = weakest_pair(errors, kept, k);
-        close(kept, k, w, 2);
+        kept.copy_within(w + 2..k, w);
         k -= 2;
     }
 }
@@ -127,53 +111,36 @@ fn cut_to(errors: &[f64], kept: &mut [u64], m: usize, n: usize)
     drop_pairs(errors, kept, m, n);
 }
 
-fn copy_places(src: &[u64], places: &mut [u64])
-    requires { length src.now ≤ length places.old }
-    ensures { places.new ≡ src.now ++ drop (length src.now) places.old }
-{
-    let mut k = 0;
-    while k < src.len() {
-        places[k] = src[k];
-        k += 1;
-    }
-}
-
-fn prune_finite(errors: &[f64], n: usize, places: &mut [u64]) -> Verdict
+fn prune_finite(errors: &[f64], n: usize, places: &mut [u64]) -> Result<(), Refusal>
     requires { Fitting (length errors.now) n (length places.old) }
     ensures { Filled (kept_places errors.now n) n result places.old places.new }
 {
     let mut kept = [0u64; CANDIDATES];
     let m = keep_runs(errors, &mut kept);
     if m < n {
-        return Verdict::Refused(Refusal::Extrema);
+        return Err(Refusal::Extrema);
     }
     cut_to(errors, &mut kept, m, n);
-    copy_places(&kept[..n], places);
-    Verdict::Taken
+    places[..n].copy_from_slice(&kept[..n]);
+    Ok(())
 }
 
 fn is_sized(count: usize, n: usize, room: usize) -> bool
     ensures { result ≡ sized count n room }
 {
-    if count < 1 {
-        return false;
-    }
-    if CANDIDATES < count {
-        return false;
-    }
-    n <= room
+    1 <= count && count <= CANDIDATES && n <= room
 }
 
 // The places of n of the errors, which alternate in sign, to the front of `places`: of each run of one sign the largest, then
 // one end where the surplus is odd, then the weakest neighbouring pairs go.
-pub fn prune_extrema_candidates(errors: &[f64], n: usize, places: &mut [u64]) -> Verdict
+pub fn prune_extrema_candidates(errors: &[f64], n: usize, places: &mut [u64]) -> Result<(), Refusal>
     ensures { Filled (prune_for errors.now n (length places.old)) n result places.old places.new }
 {
     if !is_sized(errors.len(), n, places.len()) {
-        return Verdict::Refused(Refusal::Lists);
+        return Err(Refusal::Lists);
     }
     if !numbers::all_finite(errors) {
-        return Verdict::Refused(Refusal::NotFinite);
+        return Err(Refusal::NotFinite);
     }
     prune_finite(errors, n, places)
 }

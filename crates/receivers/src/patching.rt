@@ -1,160 +1,80 @@
 // An image with another plan, as a receiver writes it: in the bytes, where document 01 has them.
-use crate::saying::say;
+use crate::bench::{Bench, Image};
 use bands::{Band, Plan, Value};
-use cases::{plan_at, whole_at};
+use cases::{count_at, plan_at};
+use numbers::to_word;
 use std::io;
 
-const BYTES: usize = 948;
-
-// A word's eight bytes, lowest first, from `at` on, where there is room for them.
-fn put_word(out: &mut [u8], at: usize, w: u64) {
-    let mut rest = w;
-    let mut i: usize = 0;
-    while i < 8 {
-        let k = std::num::wrapping_add_usize(at, i);
-        if k < out.len() {
-            out[k] = (rest % 256) as u8;
-        }
-        rest = rest / 256;
-        i += 1;
-    }
-}
-
-fn put_byte(out: &mut [u8], at: usize, b: u8) {
-    if at < out.len() {
-        out[at] = b;
-    }
-}
-
 // A value's kind and its two numbers; a constant repeats its own.
-#[derive(Clone, Copy)]
-struct Parts {
-    kind: u8,
-    first: f64,
-    second: f64,
-}
-
-fn parts_of(v: Value) -> Parts {
+fn parts_of(v: Value) -> (u8, f64, f64) {
     match v {
-        Value::Constant(a) => Parts {
-            kind: 0,
-            first: a,
-            second: a,
-        },
-        Value::Linear(a, b) => Parts {
-            kind: 1,
-            first: a,
-            second: b,
-        },
+        Value::Constant(a) => (0, a, a),
+        Value::Linear(a, b) => (1, a, b),
     }
 }
 
-fn put_band(out: &mut [u8], at: usize, b: Band) {
-    let desired = parts_of(b.desired);
-    let weight = parts_of(b.weight);
-    put_byte(out, at, desired.kind);
-    put_byte(out, std::num::wrapping_add_usize(at, 1), weight.kind);
-    put_word(
-        out,
-        std::num::wrapping_add_usize(at, 2),
-        numbers::to_word(b.begin),
-    );
-    put_word(
-        out,
-        std::num::wrapping_add_usize(at, 10),
-        numbers::to_word(b.end),
-    );
-    put_word(
-        out,
-        std::num::wrapping_add_usize(at, 18),
-        numbers::to_word(desired.first),
-    );
-    put_word(
-        out,
-        std::num::wrapping_add_usize(at, 26),
-        numbers::to_word(desired.second),
-    );
-    put_word(
-        out,
-        std::num::wrapping_add_usize(at, 34),
-        numbers::to_word(weight.first),
-    );
-    put_word(
-        out,
-        std::num::wrapping_add_usize(at, 42),
-        numbers::to_word(weight.second),
-    );
+// Kinds, edges, desired and weight, each number by the eight bytes of its bits, lowest first.
+fn put_band(out: &mut [u8; 50], b: Band) {
+    let (desired, first, second) = parts_of(b.desired);
+    let (weight, third, fourth) = parts_of(b.weight);
+    out[0] = desired;
+    out[1] = weight;
+    out[2..10].copy_from_slice(&to_word(b.begin).to_le_bytes());
+    out[10..18].copy_from_slice(&to_word(b.end).to_le_bytes());
+    out[18..26].copy_from_slice(&to_word(first).to_le_bytes());
+    out[26..34].copy_from_slice(&to_word(second).to_le_bytes());
+    out[34..42].copy_from_slice(&to_word(third).to_le_bytes());
+    out[42..50].copy_from_slice(&to_word(fourth).to_le_bytes());
 }
 
-// How many bands an image says that it has; 0 where it is too short to say.
-fn bands_in(image: &[u8]) -> usize {
-    if 28 <= image.len() {
-        image[11] as usize
-    } else {
-        0
+impl Image {
+    // How many bands it says that it has.
+    fn bands(&self) -> usize {
+        self.bytes[11] as usize
     }
-}
 
-// Another plan into an image of as many bands; false where it has another number of them.
-fn put_plan(image: &mut [u8], plan: Plan, count: usize) -> bool {
-    if bands_in(image) != count {
-        return false;
-    }
-    let mut i: usize = 0;
-    while i < Plan::BANDS {
-        if i < count {
-            let band = plan.bands[i];
-            put_band(image, 28 + 50 * i, band);
+    // Another plan of as many bands.
+    fn put_plan(&mut self, plan: Plan) {
+        let (bands, _) = self.bytes[28..].as_chunks_mut::<50>();
+        for (out, &band) in bands.iter_mut().zip(&plan.bands).take(plan.count) {
+            put_band(out, band);
         }
-        i += 1;
     }
-    true
+
+    // No exchange made, flatness 0 and no points: the bytes that are left.
+    fn forget(&mut self) {
+        self.bytes[10] = 0;
+        self.bytes[20..28].fill(0);
+        let n = self.bands();
+        self.size = if n <= Plan::BANDS { 28 + 50 * n } else { 0 };
+    }
 }
 
-// plan IMAGE BANDS, and a line for each band: another plan of as many bands; all else stays
-pub(crate) fn plan(rt: &impl Print, s: &[u8], at: usize, images: &mut [u8]) -> io::Result<()> {
-    let image = whole_at(s, at);
-    let bands = whole_at(s, image.at);
-    let planned = plan_at(s, bands.at, bands.count);
-    let plan = planned.plan;
-    let k = image.count;
-    if planned.good {
-        if k < images.len() / BYTES {
-            if put_plan(&mut images[k * BYTES..k * BYTES + BYTES], plan, bands.count) {
-                return Ok(());
+impl Bench {
+    // plan IMAGE BANDS, and a line for each band: another plan of as many bands; all else stays
+    pub(crate) fn plan(&mut self, rt: &impl Print, s: &[u8], at: usize) -> io::Result<()> {
+        let image = count_at(s, at);
+        let bands = count_at(s, image.at);
+        match (
+            plan_at(s, bands.at, bands.count),
+            self.images.get_mut(image.count),
+        ) {
+            (Some(planned), Some(image)) if image.bands() == bands.count => {
+                image.put_plan(planned.plan);
+                Ok(())
             }
+            _ => println!(rt;
+                "WRONG: no such plan, no such image, or one of another number of bands"
+            ),
         }
     }
-    say(
-        rt,
-        b"WRONG: no such plan, no such image, or one of another number of bands\n",
-    )
-}
 
-// No exchange made, flatness 0 and no points: the bytes that are left.
-fn forget(image: &mut [u8]) -> usize {
-    put_byte(image, 10, 0);
-    put_word(image, 20, 0);
-    let n = bands_in(image);
-    if n <= Plan::BANDS { 28 + 50 * n } else { 0 }
-}
-
-// unmade IMAGE: no exchange made, so that restoring opens the job of the plan in the image
-pub(crate) fn unmade(
-    rt: &impl Print,
-    s: &[u8],
-    at: usize,
-    images: &mut [u8],
-    sizes: &mut [usize],
-) -> io::Result<()> {
-    let image = whole_at(s, at);
-    let k = image.count;
-    if k < sizes.len() {
-        if k < images.len() / BYTES {
-            let n = forget(&mut images[k * BYTES..k * BYTES + BYTES]);
-            sizes[k] = n;
-            return Ok(());
-        }
+    // unmade IMAGE: no exchange made, so that restoring opens the job of the plan in the image
+    pub(crate) fn unmade(&mut self, rt: &impl Print, s: &[u8], at: usize) -> io::Result<()> {
+        let Some(image) = self.images.get_mut(count_at(s, at).count) else {
+            return println!(rt; "WRONG: no such image");
+        };
+        image.forget();
+        Ok(())
     }
-    say(rt, b"WRONG: no such image\n")
 }

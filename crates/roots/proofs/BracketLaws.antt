@@ -15,7 +15,7 @@ use Rattle.numbers.proofs.Order.{lt_asym}
 use Rattle.colleague.specs.Matrix.{Matrix}
 use Rattle.roots.specs.declared.brackets.Bracket.{Bracket}
 use Rattle.roots.specs.Residual.{residual}
-use Rattle.roots.specs.Brackets.{opposite, middle, bracket, halved, cell, cell_end, found, low_of, low_end, low_ends}
+use Rattle.roots.specs.Brackets.{opposite, middle, bracket, halved, cell, cell_end, found, low_of, low_ends}
 
 -- ---- the signs of p and q differ, by the tests in the order of the code
 or_none : (b : Bool) → b ≡ (b || false)
@@ -32,11 +32,11 @@ module _ (p q : Float) where
   pub opposite_neither : lt p zero64 ≡ false → lt zero64 p ≡ false → false ≡ opposite p q
   opposite_neither h k = rw (h, k)
 
--- ---- a halving, by the tests in the order of the code
-module _ (a : Matrix) (s k : ℕ) (p l h x r : Float) (o : Outcome Bracket) (some : 0 < k) (g : halved a s k p l h ≡ o) (ex : x ≡ middle l h) (er : r ≡ residual a s x) where
-  halved_is : halved a s k p l h ≡ (cond (finite r) (cond (eq r zero64) (gave (bracket x x)) (cond (opposite p r) (halved a s (k - 1) p l x) (halved a s (k - 1) r x h))) (refused 12))
+-- ---- halving k of 40, by the tests in the order of the code
+module _ (a : Matrix) (s k : ℕ) (p l h x r : Float) (o : Outcome Bracket) (some : k < 40) (g : halved a s (40 - k) p l h ≡ o) (ex : x ≡ middle l h) (er : r ≡ residual a s x) where
+  halved_is : halved a s (40 - k) p l h ≡ (cond (finite r) (cond (eq r zero64) (gave (bracket x x)) (cond (opposite p r) (halved a s (40 - (k + 1)) p l x) (halved a s (40 - (k + 1)) r x h))) (refused 12))
   unfolding halved
-  halved_is = let e : k ≡ suc (k - 1) = omega arith in ap (λ i. halved a s i p l h) e ∙ rw (er, ex) (unless_cond (finite (residual a s (middle l h))) _)
+  halved_is = let e : 40 - k ≡ suc (40 - (k + 1)) = omega arith in ap (λ i. halved a s i p l h) e ∙ rw (er, ex) (unless_cond (finite (residual a s (middle l h))) _)
     where
       unless_cond : (t : Bool) (z : Outcome Bracket) → unless t 12 z ≡ cond t z (refused 12)
       unless_cond true z = refl
@@ -48,31 +48,15 @@ module _ (a : Matrix) (s k : ℕ) (p l h x r : Float) (o : Outcome Bracket) (som
   pub halve_zero : finite r ≡ true → eq r zero64 ≡ true → gave (bracket x x) ≡ o
   halve_zero f e = rw (halved_is, f, e) at g
 
-  pub halve_low : finite r ≡ true → eq r zero64 ≡ false → opposite p r ≡ true → halved a s (k - 1) p l x ≡ o
+  pub halve_low : finite r ≡ true → eq r zero64 ≡ false → opposite p r ≡ true → halved a s (40 - (k + 1)) p l x ≡ o
   halve_low f e t = rw (halved_is, f, e, t) at g
 
-  pub halve_high : finite r ≡ true → eq r zero64 ≡ false → opposite p r ≡ false → halved a s (k - 1) r x h ≡ o
+  pub halve_high : finite r ≡ true → eq r zero64 ≡ false → opposite p r ≡ false → halved a s (40 - (k + 1)) r x h ≡ o
   halve_high f e t = rw (halved_is, f, e, t) at g
 
-pub halve_none : (a : Matrix) (s k : ℕ) (p l h : Float) (o : Outcome Bracket) → k ≤ 0 → halved a s k p l h ≡ o → gave (bracket l h) ≡ o
+pub halve_none : (a : Matrix) (s k : ℕ) (p l h : Float) (o : Outcome Bracket) → 40 ≤ k → halved a s (40 - k) p l h ≡ o → gave (bracket l h) ≡ o
 unfolding halved
-halve_none a s k p l h o n g = let e : k ≡ 0 = omega arith in rw e at g
-
--- ---- what a cell yields, by the tests in the order of the code
-lows_one : (o : Outcome Bracket) → low_ends (bind o (λ b. gave (b ∷ []))) ≡ bind (low_end o) (λ x. gave (x ∷ []))
-lows_one (refused n) = refl
-lows_one (gave b) = refl
-
-module _ (a : Matrix) (s : ℕ) (p q : Float) (j : ℕ) where
-  pub cell_left : eq p zero64 ≡ true → gave (cell_end j ∷ []) ≡ low_ends (cell a s p q j)
-  cell_left e = rw e
-
-  module _ (e : eq p zero64 ≡ false) where
-    pub cell_nothing : opposite p q ≡ false → gave [] ≡ low_ends (cell a s p q j)
-    cell_nothing t = rw (e, t)
-
-    pub cell_halved : (o : Outcome Float) → opposite p q ≡ true → o ≡ low_end (halved a s 40 p (cell_end j) (cell_end (j + 1))) → bind o (λ x. gave (x ∷ [])) ≡ low_ends (cell a s p q j)
-    cell_halved o t h = rw (e, t) (ap (λ z. bind z (λ x. gave (x ∷ []))) h ∙ sym (lows_one (halved a s 40 p (cell_end j) (cell_end (j + 1)))))
+halve_none a s k p l h o n g = let e : 40 - k ≡ 0 = omega arith in rw e at g
 
 -- ---- what the first n entries of `low` hold, and what the cells from j on yield, give r
 pub record Finding (a : Matrix) (s : ℕ) (g : List Float) (j n : ℕ) (low : List Float) (r : Outcome (List Float)) : Type 0 where

@@ -1,18 +1,19 @@
 -- The grid, laid eight numbers at a time. Assumes nothing.
-use Prim.Native.Nat.{ℕ, zero, suc, ◌+◌, ◌*◌, ◌<◌, ◌≤◌}
+use Prim.Native.Nat.{ℕ, ◌+◌, ◌-◌, ◌*◌, ◌<◌, ◌≤◌}
 use mathlib.Core.Path.{◌≡◌, ap, ◌∙◌}
-use mathlib.Core.List.{List}
+use mathlib.Core.List.{List, ◌++◌}
 use native.Mathlib.Omega.{arith}
 use native.Mathlib.Nat.{zero-add}
 use native.Mathlib.Decide.{dec_lt}
-use lib.ListN.{get_or, length, set, length-set}
-use lib.Seq.{get_or-set_other, get_or-set_same}
+use lib.ListN.{get_or, length, set, take, length-set, get_or-append}
+use lib.Seq.{get_or-set_other, get_or-set_same, length-take-le}
+use Rattle.std.proofs.lemmas.List.{get_or-take, get_or-append_right}
+use Rattle.numbers.proofs.LoopLaws.{length-tab}
 use lib.Ieee.{Float, nan}
-use Rattle.numbers.specs.Loops.{run, tab}
+use Rattle.numbers.specs.Loops.{tab}
 use Rattle.numbers.proofs.Lanes.{tab-same, tab-get, tab-own}
 use Rattle.colleague.specs.Matrix.{Matrix}
 use Rattle.roots.specs.Residual.{residual}
-use Rattle.roots.specs.Reciprocals.{put_behind}
 use Rattle.roots.specs.Brackets.{cell_end, grid}
 
 -- the first m entries of 65 are f's
@@ -39,37 +40,28 @@ laid_one f m g v h e l = record { long = simp length-set l.long; same = λ j p. 
         let w : m < length g = omega (arith, l.long) in
         rw z (get_or-set_same g m v nan w ∙ e)
 
-laid_more : (f : ℕ → Float) (n : List Float) (b m k : ℕ) (g : List Float) → ((j : ℕ) → j < k + m → get_or n j nan ≡ f (b + j)) → b + k + m ≤ 65
-    → Laid f (b + k) g → Laid f (b + (k + m)) (run (put_behind b n) m k g)
-unfolding run
-laid_more f n b zero k g e h l = let z : b + k ≡ b + (k + 0) = omega arith in rw (← z) l
-laid_more f n b (suc m) k g e h l =
-    let w : b + k < 65 = omega arith in
-    let q : k < k + suc m = omega arith in
-    let z : b + k + 1 ≡ b + (k + 1) = omega arith in
-    let y : b + (k + 1 + m) ≡ b + (k + suc m) = omega arith in
-    let r : b + (k + 1) + m ≤ 65 = omega arith in
-    rw (← y)
-    (laid_more f n b m (k + 1) (set g (b + k) (get_or n k nan)) (λ j p. e j (within j p)) r
-    (rw (← z) (laid_one f (b + k) g (get_or n k nan) w (e k q) l)))
-  where
-    within : (j : ℕ) → j < k + 1 + m → j < k + suc m
-    within j p = omega arith
-
 module _ (a : Matrix) (s i : ℕ) (g : List Float) (l : Laid (λ j. residual a s (cell_end j)) (8 * i) g) where
-  pub laid_eight : (x n : List Float) → i < 8 → x ≡ tab (λ k. cell_end (8 * i + k)) 8 0 → n ≡ tab (λ k. residual a s (get_or x k nan)) 8 0
-      → Laid (λ j. residual a s (cell_end j)) (8 * (i + 1)) (run (put_behind (8 * i) n) 8 0 g)
-  laid_eight x n h e d =
-      let z : 8 * i + (0 + 8) ≡ 8 * (i + 1) = omega arith in
-      let y : 8 * i ≡ 8 * i + 0 = omega arith in
-      let w : 8 * i + 0 + 8 ≤ 65 = omega arith in
-      rw (← z) (laid_more (λ j. residual a s (cell_end j)) n (8 * i) 8 0 g (λ j p. each j (rw zero-add at p)) w (rw (← y) l))
+  -- eight more, with anything behind them
+  pub laid_eight : (n p : List Float) → length (take (8 * i) g ++ (n ++ p)) ≡ 65 → i < 8 → n ≡ tab (λ k. residual a s (cell_end (8 * i + k))) 8 0
+      → Laid (λ j. residual a s (cell_end j)) (8 * (i + 1)) (take (8 * i) g ++ (n ++ p))
+  laid_eight n p h b e = record { long = h; same = λ j q. pick j q (dec_lt j (8 * i)) }
     where
-      each : (j : ℕ) → j < 8 → get_or n j nan ≡ residual a s (cell_end (8 * i + j))
-      each j p =
-          ap (λ t. get_or t j nan) d
-          ∙ tab-get (λ k. residual a s (get_or x k nan)) 8 j nan p
-          ∙ ap (residual a s) (ap (λ t. get_or t j nan) e ∙ tab-get (λ k. cell_end (8 * i + k)) 8 j nan p)
+      front : length (take (8 * i) g) ≡ 8 * i
+      front = length-take-le (8 * i) g (omega (arith, l.long))
+
+      eight : length n ≡ 8
+      eight = ap length e ∙ length-tab _ _ _
+
+      pick : (j : ℕ) → j < 8 * (i + 1) → Dec (j < 8 * i) → get_or (take (8 * i) g ++ (n ++ p)) j nan ≡ residual a s (cell_end j)
+      pick j q (yes k) = get_or-append (take (8 * i) g) (n ++ p) nan j (omega (arith, front)) ∙ get_or-take (8 * i) g j nan k ∙ l.same j k
+      pick j q (no k) =
+          let t : j - 8 * i < 8 = omega arith in
+          let z : 8 * i + (j - 8 * i) ≡ j = omega arith in
+          get_or-append_right (take (8 * i) g) (n ++ p) (8 * i) j nan front (omega arith)
+          ∙ get_or-append n p nan (j - 8 * i) (omega (arith, eight))
+          ∙ ap (λ m. get_or m (j - 8 * i) nan) e
+          ∙ tab-get (λ k. residual a s (cell_end (8 * i + k))) 8 (j - 8 * i) nan t
+          ∙ ap (λ m. residual a s (cell_end m)) z
 
   pub laid_end : (r : Float) → 8 ≤ i → i ≤ 8 → r ≡ residual a s (cell_end 64) → set g 64 r ≡ grid a s
   laid_end r h o e =

@@ -1,7 +1,7 @@
--- Dividing by a power of two is multiplying by its reciprocal, whatever is divided; so a turn may multiply. Assumes nothing.
+-- Dividing by a power of two is multiplying by its reciprocal, whatever is divided. Assumes nothing.
 use Prim.Native.Nat.{ℕ, zero, suc, ◌+◌, ◌-◌, ◌*◌, ◌/◌, ◌%◌, ◌<◌, ◌≤◌}
 use mathlib.Core.Path.{◌≡◌, refl, sym, ap, ◌∙◌}
-use mathlib.Core.Bool.{Bool, false, not, true≢false}
+use mathlib.Core.Bool.{Bool, false, not}
 use mathlib.Core.List.{List}
 use native.Mathlib.Omega.{arith}
 use native.Mathlib.Nat.{one-mul, mul_comm}
@@ -11,18 +11,13 @@ use lib.Dec.{T}
 use lib.IntN.{ℤ, pos, negsuc, neg_ℤ}
 use lib.ListN.{get_or, length, set}
 use lib.Seq.{get_or-set_other, get_or-set_same}
-use lib.Ieee.{Float, nan, inf, fin, Format, binary64, up, down, minus, mul, div, odd, of_fields, of_bits, is_nan, fits, eq}
+use lib.Ieee.{Float, nan, inf, fin, Format, binary64, up, down, minus, mul, div, odd, of_fields, of_bits, is_nan, fits}
 use lib.Count.{count_trailing_zeros}
-use Rattle.numbers.specs.Floats.{zero64}
 use Rattle.numbers.specs.Operations.{◌⊗◌, ◌⊘◌}
 use Rattle.numbers.specs.Words.{of_word, to_word}
 use Rattle.numbers.proofs.WordLaws.{back, number_word}
-use Rattle.numbers.proofs.Lanes.{tab-same, row}
 use Rattle.colleague.specs.Matrix.{Matrix, at}
-use Rattle.roots.specs.declared.residual.Turn.{Turn}
-use Rattle.roots.specs.Residual.{turn_by, turn}
-use Rattle.roots.specs.Rows.{no_turn}
-use Rattle.roots.specs.Reciprocals.{Reciprocal, Reciprocals, turn_times, turned_times}
+use Rattle.roots.specs.Reciprocals.{Reciprocal, Reciprocals}
 
 up_neg : (d : ℤ) → up (neg_ℤ d) ≡ down d
 up_neg (pos zero) = refl
@@ -108,11 +103,6 @@ reciprocal_is x w f e m l h =
     let z : w ≡ w / 0x0010_0000_0000_0000 * 0x0010_0000_0000_0000 = omega arith in
     power_same x (w / 0x0010_0000_0000_0000) f l h (sym e ∙ z)
 
--- 0.0 stands for none
-pub none_is : {x : Float} → eq zero64 zero64 ≡ false → Reciprocal x zero64
-unfolding eq of_bits
-none_is e = absurd (true≢false e)
-
 -- ---- the first j of them
 pub reciprocals_start : {a : Matrix} {v : List Float} → Reciprocals a (0 + 1) v
 reciprocals_start = record { each = λ j h. absurd (none j h) }
@@ -138,13 +128,3 @@ module _ {a : Matrix} {j : ℕ} {v : List Float} (made : Reciprocals a (j + 1) v
     where
       below : (i : ℕ) → i < s - 1 → i < j + 1 - 1
       below i p = omega arith
-
--- ---- a turn that multiplies is the turn
-turn_times_lem : (j : ℕ) (right inverse first left x : Float) (t : Turn) → Reciprocal right inverse → turn_times j inverse first left x t ≡ turn_by j right first left x t
-turn_times_lem j right inverse first left x t r = rw (r.same t.n)
-
-pub row_times : (a : Matrix) (s j : ℕ) (inverse x : List Float) (ts : List Turn) → Reciprocals a s inverse → j < s - 1
-    → turned_times j (get_or inverse j nan) (at a (j + 1) 0) (at a (j + 1) j) x ts ≡ row (λ k. turn a (get_or x k nan)) 8 no_turn j ts
-row_times a s j inverse x ts r h =
-    tab-same (λ k. turn_times j (get_or inverse j nan) (at a (j + 1) 0) (at a (j + 1) j) (get_or x k nan) (get_or ts k no_turn)) (λ k. turn a (get_or x k nan) j (get_or ts k no_turn)) 8 0
-    (λ k p q. turn_times_lem j (at a j (j + 1)) (get_or inverse j nan) (at a (j + 1) 0) (at a (j + 1) j) (get_or x k nan) (get_or ts k no_turn) (r.each j h))

@@ -1,6 +1,6 @@
 -- The laws of rows: a list filled whole, and the residuals side by side, each of them its own recurrence. Assumes nothing.
 use Prim.Native.Nat.{ℕ, ◌+◌, ◌-◌, ◌<◌, ◌≤◌}
-use mathlib.Core.Path.{◌≡◌, sym, ap, ◌∙◌}
+use mathlib.Core.Path.{◌≡◌, refl, sym, ap, ◌∙◌}
 use mathlib.Core.List.{List, append-nil}
 use native.Mathlib.Omega.{arith}
 use native.Mathlib.Nat.{zero-add}
@@ -8,7 +8,7 @@ use lib.ListN.{length, get_or, replicate, drop_of_length-le, get_or-replicate}
 use lib.Ieee.{Float, nan}
 use Rattle.numbers.specs.Floats.{one64}
 use Rattle.numbers.specs.Loops.{run, tab}
-use Rattle.numbers.specs.Operations.{◌⊖◌}
+use Rattle.numbers.specs.Operations.{◌⊖◌, ◌⊘◌}
 use Rattle.numbers.proofs.LoopLaws.{Going, put, fill_start}
 use Rattle.numbers.proofs.Lanes.{tab-same, tab-get, tab-own, row, lanes}
 use Rattle.numbers.proofs.InPlace.{zip_length, zip_get}
@@ -24,9 +24,9 @@ fill_all g n o h =
     rw (drop_of_length-le o {i = n} b, append-nil) at (fill_start g n o a)
 
 -- a turn of every place, with the matrix's entries
-pub row_of : (a : Matrix) (j m : ℕ) (x : List Float) (ts : List Turn) → length x ≡ m
-    → turned j (at a j (j + 1)) (at a (j + 1) 0) (at a (j + 1) j) x ts ≡ row (λ k. turn a (get_or x k nan)) m no_turn j ts
-row_of a j m x ts h = ap (λ i. tab (λ k. turn a (get_or x k nan) j (get_or ts k no_turn)) i 0) h
+pub row_of : (a : Matrix) (j m : ℕ) (x : List Float) (ts : List Turn)
+    → turned j (λ y. y ⊘ at a j (j + 1)) (at a (j + 1) 0) (at a (j + 1) j) m x ts ≡ row (λ k. turn a (get_or x k nan)) m no_turn j ts
+row_of a j m x ts = refl
 
 -- ---- m places x, whose numbers n and v after the last turn came from n' and v'
 module _ (a : Matrix) (s m : ℕ) (x n v n' v' : List Float) (ln : length n ≡ m) (lv : length v ≡ m) (ln' : length n' ≡ m) (lv' : length v' ≡ m) where

@@ -1,19 +1,15 @@
 -- The leaf: from the balanced matrix to its roots, the lower ends of the brackets.
-use Rattle.std.specs.Prelude.{ℕ, ◌&&◌, cond, List, [], map, leb, eqb, length, Float}
+use Rattle.std.specs.Prelude.{ℕ, ◌&&◌, cond, List, [], leb, eqb, length, Float}
 use Rattle.numbers.specs.Floats.{all_finite}
 use Rattle.numbers.specs.Outcome.{Outcome, gave, bind, unless}
-use Rattle.colleague.specs.declared.Row.{Row}
 use Rattle.colleague.specs.declared.Colleague.{Colleague}
 use Rattle.colleague.specs.Matrix.{Matrix, entries_finite}
 use Rattle.colleague.specs.Answer.{colleague_for}
 use Rattle.roots.specs.declared.brackets.Bracket.{Bracket}
 use Rattle.roots.specs.Brackets.{grid, found, low_ends}
 
-abbrev pub entries_of : Row → List Float
-entries_of r = r.entries
-
 abbrev pub rows_of : Colleague → Matrix
-rows_of m = map entries_of m.rows
+rows_of m = m.rows
 
 -- all 65 residuals are worked out, whatever is yielded; 12 where one is not finite, or for more roots than rows
 abbrev pub brackets_of : Matrix → ℕ → Outcome (List Bracket)

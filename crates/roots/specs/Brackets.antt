@@ -1,7 +1,7 @@
 -- The search for roots (document 01, "Roots"): 64 cells between -1 + j/32, j = 0 to 64, in rising order. A cell whose left residual is
 -- zero yields its left end; one whose end residuals have strictly opposite signs is halved. Point 1 is yielded if its residual
 -- is zero. A root touched without a sign change is missed.
-use Rattle.std.specs.Prelude.{ℕ, zero, suc, ◌+◌, Bool, ◌&&◌, ◌||◌, cond, List, [], ◌∷◌, ◌++◌, map, pos, get_or, Float}
+use Rattle.std.specs.Prelude.{ℕ, zero, suc, ◌+◌, Bool, ◌&&◌, ◌||◌, cond, List, [], ◌∷◌, ◌++◌, map, pos, get_or, Float, Option, Some, None, Result, Ok, Err}
 use Rattle.std.specs.Float.{nan, binary64}
 use Rattle.std.specs.Float.Ieee.{of_bits, of_int, lt, eq, neg}
 use Rattle.std.specs.Float.Ieee.Scale.{finite}
@@ -12,8 +12,7 @@ use Rattle.numbers.specs.Outcome.{Outcome, refused, gave, bind, unless}
 use Rattle.numbers.specs.Refusals.{refusal_number}
 use Rattle.colleague.specs.Matrix.{Matrix}
 use Rattle.roots.specs.declared.brackets.Bracket.{Bracket}
-use Rattle.roots.specs.declared.brackets.Cell.{Cell}
-use Rattle.roots.specs.declared.brackets.Cell.TheVariants.{Nothing, Root, Refused}
+use Rattle.numbers.specs.declared.Refusal.{Refusal}
 use Rattle.roots.specs.Residual.{residual}
 
 -- -1 + j/32
@@ -66,7 +65,7 @@ abbrev pub low_ends : Outcome (List Bracket) → Outcome (List Float)
 low_ends o = bind o (λ l. gave (map low_of l))
 
 -- what a cell's answer stands for
-abbrev pub cell_of : Cell → Outcome (List Float)
-cell_of Nothing = gave []
-cell_of (Root x) = gave (x ∷ [])
-cell_of (Refused why) = refused (refusal_number why)
+abbrev pub cell_of : Result (Option Float) Refusal → Outcome (List Float)
+cell_of (Ok None) = gave []
+cell_of (Ok (Some x)) = gave (x ∷ [])
+cell_of (Err why) = refused (refusal_number why)

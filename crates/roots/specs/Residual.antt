@@ -11,12 +11,15 @@ use Rattle.roots.specs.declared.residual.Turn.{Turn}
 abbrev pub first : Matrix → Float → Turn
 first a x = record { n = x ⊖ at a 0 0; v = one64 }
 
--- from n(j) and v(j) to those of j + 1, of a(j,j+1), a(j+1,0) and a(j+1,j)
-abbrev pub turn_by : ℕ → Float → Float → Float → Float → Turn → Turn
-turn_by j right first left x t =
-    let w = t.n ⊘ right in
+-- from n(j) and v(j) to those of j + 1, of w, which is n(j) over a(j,j+1), and of a(j+1,0), a(j+1,j) and v(j)
+abbrev pub turn_on : ℕ → Float → Float → Float → Float → Float → Turn
+turn_on j w first left x v =
     let m = x ⊗ w ⊖ first in
-    record { n = cond (leb 1 j) (m ⊖ left ⊗ t.v) m; v = w }
+    record { n = cond (leb 1 j) (m ⊖ left ⊗ v) m; v = w }
+
+-- of a(j,j+1), a(j+1,0) and a(j+1,j)
+abbrev pub turn_by : ℕ → Float → Float → Float → Float → Turn → Turn
+turn_by j right first left x t = turn_on j (t.n ⊘ right) first left x t.v
 
 abbrev pub turn : Matrix → Float → ℕ → Turn → Turn
 turn a x j t = turn_by j (at a j (j + 1)) (at a (j + 1) 0) (at a (j + 1) j) x t

@@ -1,10 +1,10 @@
 -- The residuals of many places side by side, as they are worked out: turn by turn, all places in each turn.
-use Rattle.std.specs.Prelude.{ℕ, length, get_or, Float}
+use Rattle.std.specs.Prelude.{ℕ, get_or, Float}
 use mathlib.Core.List.{List, zip_with}
 use Rattle.std.specs.Float.{nan}
 use Rattle.numbers.specs.Loops.{tab}
 use Rattle.roots.specs.declared.residual.Turn.{Turn}
-use Rattle.roots.specs.Residual.{turn_by}
+use Rattle.roots.specs.Residual.{turn_on}
 
 abbrev pub both : Float → Float → Turn
 both n v = record { n = n; v = v }
@@ -16,5 +16,9 @@ no_turn = both nan nan
 abbrev pub turns : List Float → List Float → List Turn
 turns n v = zip_with both n v
 
-abbrev pub turned : ℕ → Float → Float → Float → List Float → List Turn → List Turn
-turned j right first left xs ts = tab (λ k. turn_by j right first left (get_or xs k nan) (get_or ts k no_turn)) (length xs) 0
+-- a turn at each of m places xs; q gives n over a(j,j+1)
+abbrev pub turn_of : ℕ → (Float → Float) → Float → Float → List Float → ℕ → Turn → Turn
+turn_of j q first left xs k t = turn_on j (q t.n) first left (get_or xs k nan) t.v
+
+abbrev pub turned : ℕ → (Float → Float) → Float → Float → ℕ → List Float → List Turn → List Turn
+turned j q first left m xs ts = tab (λ k. turn_of j q first left xs k (get_or ts k no_turn)) m 0

@@ -2,8 +2,6 @@
 // with a second writing of document 01: pm-remez has none).
 #![tactic(auto)]
 
-ghost use Rattle.std.specs.Prelude.{◌≤◌, length, IfOk};
-
 mod candidates;
 mod intervals;
 mod judging;
@@ -11,49 +9,22 @@ mod matrices;
 
 use judging::Judged;
 use std::io;
-use std::io::Read;
-use text::Token;
+use text::{Word, read_full};
 
 // The list has to be shorter.
 const ROOM: usize = 524288;
 
-// Until the input ends or the room is full; how many bytes were read.
-fn read_full(input: &mut impl Read, room: &mut [u8]) -> io::Result<usize>
-    ensures { IfOk result (λ n. n ≤ length room.new) }
-{
-    let mut n = 0;
-    while n < room.len() {
-        let k = input.read(&mut room[n..])?;
-        if k == 0 {
-            break;
-        }
-        n += k;
+// How the leaf of that name comes out; none where it is wrong or cannot be read.
+fn judged(s: &[u8], leaf: Word) -> Option<Judged> {
+    let at = leaf.to;
+    match text::part(s, leaf) {
+        b"first" => intervals::first(s, at),
+        b"subdivide" => intervals::subdivide(s, at),
+        b"colleague" => matrices::colleague(s, at),
+        b"roots" => matrices::roots(s, at),
+        b"prune" => candidates::prune(s, at),
+        _ => None,
     }
-    Ok(n)
-}
-
-fn say(rt: &impl Print, words: &[u8]) -> io::Result<()> {
-    rt.write_all(words)
-}
-
-// A leaf by its name.
-fn judged_case(s: &[u8], from: usize, to: usize) -> Judged {
-    if text::is(s, from, to, b"first") {
-        return intervals::first(s, to);
-    }
-    if text::is(s, from, to, b"subdivide") {
-        return intervals::subdivide(s, to);
-    }
-    if text::is(s, from, to, b"colleague") {
-        return matrices::colleague(s, to);
-    }
-    if text::is(s, from, to, b"roots") {
-        return matrices::roots(s, to);
-    }
-    if text::is(s, from, to, b"prune") {
-        return candidates::prune(s, to);
-    }
-    Judged::Wrong
 }
 
 // How the cases of a leaf come out.
@@ -65,94 +36,70 @@ struct Tally {
     known: u64,
 }
 
-fn more(n: u64) -> u64 {
-    std::num::wrapping_add_u64(n, 1)
-}
-
-fn tallied(s: &[u8], at: usize, t: Tally) -> Tally {
-    let Token::Word(from, to) = text::next(s, at) else {
-        return t;
-    };
-    let j = judged_case(s, from, to);
-    let mut u = t;
-    u.cases = more(t.cases);
-    match j {
-        Judged::Wrong => u,
-        Judged::Same => {
-            u.same = more(t.same);
-            u
-        }
-        Judged::Refused => {
-            u.refused = more(t.refused);
-            u
-        }
-        Judged::Known => {
-            u.known = more(t.known);
-            u
+impl Tally {
+    fn count(&mut self, judged: Option<Judged>) {
+        self.cases = self.cases.wrapping_add(1);
+        match judged {
+            Some(Judged::Same) => self.same = self.same.wrapping_add(1),
+            Some(Judged::Refused) => self.refused = self.refused.wrapping_add(1),
+            Some(Judged::Known) => self.known = self.known.wrapping_add(1),
+            None => {}
         }
     }
 }
 
-// Word after word: every turn passes one.
-fn counted(s: &[u8], name: &[u8]) -> Tally {
+fn counted(s: &[u8], name: &str) -> Tally {
     let mut t = Tally {
         cases: 0,
         same: 0,
         refused: 0,
         known: 0,
     };
-    let mut at: usize = 0;
-    let mut turns = s.len();
-    while turns > 0 {
-        let Token::Word(from, to) = text::next(s, at) else {
-            return t;
+    let mut at = 0;
+    // Word after word: every turn passes one.
+    for _ in 0..s.len() {
+        let Some(word) = text::next(s, at) else {
+            break;
         };
-        if cases::is_case(s, from, to, name) {
-            let u = tallied(s, to, t);
-            t = u;
+        if cases::is_case(s, word, name.as_bytes()) {
+            if let Some(leaf) = text::next(s, word.to) {
+                t.count(judged(s, leaf));
+            }
         }
-        at = to;
-        turns -= 1;
+        at = word.to;
     }
     t
 }
 
 // The leaf's line; whether no case is wrong.
-fn reported(rt: &impl Print, s: &[u8], name: &[u8]) -> io::Result<bool> {
+fn reported(rt: &impl Print, s: &[u8], name: &str) -> io::Result<bool> {
     let t = counted(s, name);
-    say(rt, name)?;
     println!(rt;
-        ": {} cases, {} with the very bits, {} refused by both, {} known differences",
+        "{name}: {} cases, {} with the very bits, {} refused by both, {} known differences",
         t.cases, t.same, t.refused, t.known
     )?;
-    if t.cases == 0 {
-        return Ok(false);
-    }
-    let a = std::num::wrapping_add_u64(t.same, t.refused);
-    Ok(t.cases == std::num::wrapping_add_u64(a, t.known))
-}
-
-fn both(a: bool, b: bool) -> bool {
-    if a { b } else { false }
+    let right = t.same.wrapping_add(t.refused).wrapping_add(t.known);
+    Ok(t.cases != 0 && t.cases == right)
 }
 
 fn is_all_good(rt: &impl Print, s: &[u8]) -> io::Result<bool> {
-    let a = reported(rt, s, b"first")?;
-    let b = both(a, reported(rt, s, b"subdivide")?);
-    let c = both(b, reported(rt, s, b"colleague")?);
-    let d = both(c, reported(rt, s, b"roots")?);
-    Ok(both(d, reported(rt, s, b"prune")?))
+    let mut good = true;
+    for name in ["first", "subdivide", "colleague", "roots", "prune"] {
+        good &= reported(rt, s, name)?;
+    }
+    Ok(good)
 }
 
+// Kept: no plainer: what a program says in the end stands in its own main.
 fn main(rt: HostRuntime) -> io::Result<()> {
     let mut room = [0u8; ROOM];
-    let n = read_full(&mut rt.stdin(), &mut room)?;
-    if n == ROOM {
-        return say(&rt, b"WRONG: the list fills the program's room\n");
+    let s = read_full(&mut rt.stdin(), &mut room)?;
+    if s.len() == ROOM {
+        return println!(&rt; "WRONG: the list fills the program's room");
     }
-    if is_all_good(&rt, &room[..n])? {
-        say(&rt, b"ok\n")
+    if is_all_good(&rt, s)? {
+        println!(&rt; "ok")
     } else {
-        say(&rt, b"WRONG\n")
+        println!(&rt; "WRONG")
     }
 }

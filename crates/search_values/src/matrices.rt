@@ -1,192 +1,88 @@
 // The colleague matrix and its roots.
-use crate::judging::{Judged, is_failure, known_if, refused_if, same_if};
-use colleague::{Answer, Colleague, Row};
-use numbers::{Count, Refusal, Verdict};
+use crate::judging::{Judged, is_failure};
+use cases::{are_finite, are_same, count_at, list_into, past};
+use colleague::Colleague;
+use numbers::Refusal;
 
-// Rows of a matrix, where they end, and whether they could be read.
+// Rows of a matrix, and where they end.
 #[derive(Clone, Copy)]
 struct Rows {
-    rows: [Row; 15],
+    rows: [[f64; 15]; 15],
     at: usize,
-    good: bool,
 }
 
-fn rows_at(s: &[u8], at: usize, size: usize) -> Rows {
-    let mut rows = [Row { entries: [0.0; 15] }; 15];
+fn rows_at(s: &[u8], at: usize, size: usize) -> Option<Rows> {
+    let mut rows = [[0.0; 15]; 15];
     let mut from = at;
-    let mut good = true;
-    let mut i: usize = 0;
-    while i < size {
-        if 15 <= i {
-            return Rows {
-                rows,
-                at,
-                good: false,
-            };
-        }
-        let mut entries = [0.0; 15];
-        let e = cases::list_into(s, from, &mut entries);
-        rows[i] = Row { entries: entries };
-        if !e.good {
-            good = false;
-        }
+    for row in rows.get_mut(..size)? {
+        let e = list_into(s, from, row)?;
         if e.count != size {
-            good = false;
+            return None;
         }
         from = e.at;
-        i += 1;
     }
-    Rows {
-        rows,
-        at: from,
-        good,
-    }
+    Some(Rows { rows, at: from })
 }
 
-fn is_row(a: Row, b: Row, size: usize) -> bool {
-    let p = a.entries;
-    let q = b.entries;
-    cases::are_same(&p, &q, size)
+fn are_rows(a: &[[f64; 15]; 15], b: &[[f64; 15]; 15], size: usize) -> bool {
+    a.iter()
+        .zip(b)
+        .take(size)
+        .all(|(p, q)| are_same(p, q, size))
 }
 
-fn is_row_finite(a: Row, size: usize) -> bool {
-    let p = a.entries;
-    cases::are_finite(&p, size)
-}
-
-fn are_rows(a: [Row; 15], b: [Row; 15], size: usize) -> bool {
-    let mut i: usize = 0;
-    while i < size {
-        if 15 <= i {
-            return false;
-        }
-        let r = a[i];
-        let t = b[i];
-        if !is_row(r, t, size) {
-            return false;
-        }
-        i += 1;
-    }
-    true
-}
-
-fn are_rows_finite(a: [Row; 15], size: usize) -> bool {
-    let mut i: usize = 0;
-    while i < size {
-        if 15 <= i {
-            return false;
-        }
-        let r = a[i];
-        if !is_row_finite(r, size) {
-            return false;
-        }
-        i += 1;
-    }
-    true
+fn are_rows_finite(a: &[[f64; 15]; 15], size: usize) -> bool {
+    a.iter().take(size).all(|row| are_finite(row, size))
 }
 
 // pm-remez's matrix, its passes before it.
-fn balanced(s: &[u8], at: usize, m: Colleague, v: Verdict) -> Judged {
-    let p = cases::whole_at(s, cases::past(s, at));
-    let o = cases::whole_at(s, p.at);
-    let r = rows_at(s, o.at, o.count);
-    if !r.good {
-        return Judged::Wrong;
-    }
-    let said = r.rows;
-    match v {
-        Verdict::Taken => {
-            if m.size != o.count {
-                return Judged::Wrong;
-            }
-            if m.passes != p.count as u64 {
-                return Judged::Wrong;
-            }
-            let rows = m.rows;
-            same_if(are_rows(rows, said, o.count))
-        }
+fn balanced(s: &[u8], at: usize, made: Result<Colleague, Refusal>) -> Option<Judged> {
+    let p = count_at(s, past(s, at));
+    let o = count_at(s, p.at);
+    let said = rows_at(s, o.at, o.count)?.rows;
+    match made {
+        Ok(m) => (m.size == o.count
+            && m.passes == p.count as u64
+            && are_rows(&m.rows, &said, o.count)).then_some(Judged::Same),
         // It goes on with a number that is not finite, and makes a 65th pass.
-        Verdict::Refused(q) => match q {
-            Refusal::NotFinite => known_if(!are_rows_finite(said, o.count)),
-            Refusal::Balancing => known_if(64 < p.count),
-            _ => Judged::Wrong,
-        },
+        Err(Refusal::NotFinite) => (!are_rows_finite(&said, o.count)).then_some(Judged::Known),
+        Err(Refusal::Balancing) => (64 < p.count).then_some(Judged::Known),
+        Err(_) => None,
     }
 }
 
-fn answered(s: &[u8], at: usize, a: Answer) -> Judged {
-    let m = a.matrix;
-    let v = a.verdict;
-    if is_failure(s, at, b"ProxyDerivativeZero") {
-        return match v {
-            Verdict::Taken => Judged::Wrong,
-            Verdict::Refused(q) => refused_if(numbers::number(q) == 10),
-        };
+pub(crate) fn colleague(s: &[u8], at: usize) -> Option<Judged> {
+    let mut ck = [0.0; 16];
+    let p = list_into(s, at, &mut ck)?;
+    let made = colleague::colleague_matrix(ck.get(..p.count)?);
+    if is_failure(s, p.at, b"ProxyDerivativeZero") {
+        return matches!(made, Err(Refusal::Derivative)).then_some(Judged::Refused);
     }
     // A derivative of one coefficient.
-    if is_failure(s, at, b"panic") {
-        return match v {
-            Verdict::Taken => known_if(m.size == 0),
-            Verdict::Refused(_) => Judged::Wrong,
-        };
+    if is_failure(s, p.at, b"panic") {
+        return matches!(made, Ok(m) if m.size == 0).then_some(Judged::Known);
     }
-    balanced(s, at, m, v)
+    balanced(s, p.at, made)
 }
 
-pub(crate) fn colleague(s: &[u8], at: usize) -> Judged {
-    let mut ck = [0.0; 16];
-    let p = cases::list_into(s, at, &mut ck);
-    let n = p.count;
-    if 16 < n {
-        return Judged::Wrong;
-    }
-    if !p.good {
-        return Judged::Wrong;
-    }
-    answered(s, p.at, colleague::colleague_matrix(&ck[..n]))
-}
-
-fn found(s: &[u8], at: usize, m: Colleague) -> Judged {
+pub(crate) fn roots(s: &[u8], at: usize) -> Option<Judged> {
+    let o = count_at(s, past(s, at));
+    let r = rows_at(s, o.at, o.count)?;
+    let m = Colleague {
+        rows: r.rows,
+        size: o.count,
+        passes: 0,
+    };
     let mut said = [0.0; 15];
     let mut out = [0.0; 15];
-    let c = roots::find_roots(m, &mut out);
-    let g = cases::list_into(s, at, &mut said);
-    match c {
-        Count::Of(n) => {
-            if !g.good {
-                return Judged::Wrong;
-            }
-            if n != g.count {
-                return Judged::Wrong;
-            }
-            same_if(cases::are_same(&out, &said, n))
+    match roots::find_roots(m, &mut out) {
+        Ok(n) => {
+            let g = list_into(s, r.at, &mut said)?;
+            (n == g.count && are_same(&out, &said, n)).then_some(Judged::Same)
         }
-        Count::Refused(q) => {
-            if numbers::number(q) != 12 {
-                return Judged::Wrong;
-            }
-            if is_failure(s, at, b"ResidualNotFinite") {
-                return Judged::Refused;
-            }
-            refused_if(is_failure(s, at, b"MoreRootsThanRows"))
-        }
+        Err(Refusal::Roots)
+            if is_failure(s, r.at, b"ResidualNotFinite")
+                || is_failure(s, r.at, b"MoreRootsThanRows") => { Some(Judged::Refused) }
+        Err(_) => None,
     }
-}
-
-pub(crate) fn roots(s: &[u8], at: usize) -> Judged {
-    let o = cases::whole_at(s, cases::past(s, at));
-    let r = rows_at(s, o.at, o.count);
-    if !r.good {
-        return Judged::Wrong;
-    }
-    let rows = r.rows;
-    found(
-        s,
-        r.at,
-        Colleague {
-            rows,
-            size: o.count,
-            passes: 0,
-        },
-    )
 }

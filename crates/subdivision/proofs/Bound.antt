@@ -1,6 +1,6 @@
 -- Subintervals are at most points + bands (document 01): a band makes at most one more than the points it consumes. Assumes nothing.
 use Prim.Native.Nat.{ℕ, suc, ◌+◌, ◌<◌, ◌≤◌}
-use mathlib.Core.Path.{◌≡◌, refl}
+use mathlib.Core.Path.{◌≡◌, sym}
 use mathlib.Core.Bool.{Bool, true, false, ◌&&◌, cond}
 use mathlib.Core.List.{List, [], ◌∷◌}
 use native.Mathlib.Omega.{arith}
@@ -8,18 +8,17 @@ use borrow.Author.Tests.{leb-true}
 use lib.Dec.{leb}
 use lib.ListN.{length, take, length-append, length-take}
 use lib.Ieee.{Float, lt, eq}
-use Rattle.numbers.specs.declared.Verdict.{Verdict}
 use Rattle.numbers.specs.Floats.{all_finite}
 use Rattle.numbers.specs.Outcome.{unless, gave}
-use Rattle.numbers.specs.Refusals.{Answers, given_or}
+use Rattle.numbers.proofs.Given.{gave_same, unless_given}
 use Rattle.numbers.proofs.LoopLaws.{length-tab}
 use Rattle.numbers.proofs.Order.{and_1, and_2}
 use Rattle.fir_types.specs.declared.edges.Interval.{Interval}
-use Rattle.fir_types.specs.declared.edges.Edges.{Edges}
+use Rattle.fir_types.specs.Edges.{Edges}
 use Rattle.fir_types.specs.Edges.{interval}
-use Rattle.subdivision.specs.declared.cuts.Intervals.{Intervals}
+use Rattle.subdivision.specs.Subdivide.{Intervals}
 use Rattle.subdivision.specs.First.{edges_finite}
-use Rattle.subdivision.specs.Subdivide.{Cut, with, cut_band, cut_bands, from_back, rising, subdivided, packed, none, subdivide_sized, subdivide_for}
+use Rattle.subdivision.specs.Subdivide.{Cut, with, cut_band, cut_bands, from_back, rising, subdivided, packed, subdivide_sized, subdivide_for}
 
 -- ---- what holds of a band's cut, by the four cases of its next point
 pub cut_step : (Q : Cut → Type 0) (begin end a : Float) (l : List Float) → Q (record { made = interval begin end ∷ []; left = a ∷ l })
@@ -73,15 +72,13 @@ subdivide_sized_lem n e h =
     let p = and_1 (leb 1 n && leb n 65) (leb 1 e.count) (and_1 (leb 1 n && leb n 65 && leb 1 e.count) (leb e.count 8) h) in
     (leb-true n 65 (and_2 (leb 1 n) (leb n 65) p), leb-true e.count 8 (and_2 (leb 1 n && leb n 65 && leb 1 e.count) (leb e.count 8) h))
 
--- the same of an answer, for callers: it has no more, and so it fits its array
-pub few_intervals : (x : List Float) (e : Edges) (v : Verdict) (s : Intervals) → Answers none (subdivide_for x e) v s → (s.count ≤ length x + e.count) × (s.count ≤ 73)
+-- the same of what is answered, for callers: it has no more, and so it fits its array
+pub few_intervals : (x : List Float) (e : Edges) (s : Intervals) → gave s ≡ subdivide_for x e → (s.count ≤ length x + e.count) × (s.count ≤ 73)
 unfolding subdivide_for
-few_intervals x e v s a = rw a.value (go (subdivide_sized (length x) e) (all_finite x && edges_finite e) refl)
-  where
-    few : ℕ → Type 0
-    few n = (n ≤ length x + e.count) × (n ≤ 73)
-
-    go : (t u : Bool) → subdivide_sized (length x) e ≡ t → few (given_or none (unless t 15 (unless u 9 (gave (packed (subdivided x e)))))).count
-    go false u h = (omega arith, omega arith)
-    go true false h = (omega arith, omega arith)
-    go true true h = let k = subdivide_sized_lem (length x) e h in let m = most_intervals_lem x e in (m, omega arith)
+few_intervals x e s h =
+    let p = unless_given (subdivide_sized (length x) e) 15 (unless (all_finite x && edges_finite e) 9 (gave (packed (subdivided x e)))) (sym h) in
+    let q = unless_given (all_finite x && edges_finite e) 9 (gave (packed (subdivided x e))) p.rest in
+    let z : packed (subdivided x e) ≡ s = gave_same q.rest in
+    let k = subdivide_sized_lem (length x) e p.test in
+    let m = most_intervals_lem x e in
+    rw (← z) (m, omega arith)

@@ -10,7 +10,7 @@ use Rattle.angles.specs.Constants.{half}
 use Rattle.fir_types.specs.Edges.{interval}
 use Rattle.fir_types.specs.Edges as edges
 use Rattle.fir_types.specs.Taps.{quarter}
-use Rattle.subdivision.specs.declared.cuts.Intervals.{Intervals}
+use Rattle.subdivision.specs.Subdivide.{Intervals}
 use Rattle.subdivision.specs.Subdivide.{cut_band, cut_bands, subdivided, subdivide_for, packed}
 
 abbrev pub cases : List Case

@@ -12,11 +12,12 @@ use lib.Ieee.{Float, nan, lt, eq, ne}
 use Rattle.numbers.specs.Floats.{zero64}
 use Rattle.numbers.specs.Loops.{tab}
 use Rattle.numbers.proofs.LoopLaws.{length-tab}
-use Rattle.numbers.proofs.Fronts.{padded_more, length_more}
+use Rattle.listed.proofs.Laws.{listed_more}
+use Rattle.numbers.proofs.Fronts.{length_more}
 use Rattle.fir_types.specs.declared.edges.Interval.{Interval}
-use Rattle.fir_types.specs.declared.edges.Edges.{Edges}
+use Rattle.fir_types.specs.Edges.{Edges}
 use Rattle.fir_types.specs.Edges.{interval}
-use Rattle.subdivision.specs.declared.cuts.Intervals.{Intervals}
+use Rattle.subdivision.specs.Subdivide.{Intervals}
 use Rattle.subdivision.specs.declared.cuts.Cutting.{Cutting}
 use Rattle.subdivision.specs.First.{band_of}
 use Rattle.subdivision.specs.Subdivide.{Cut, cut_band, cut_bands, from_back, rising_last, rising, subdivided, packed, push, push_all, cut_from}
@@ -61,16 +62,13 @@ unfolding push_all
 push_count [] s = omega arith
 push_count (i ∷ l) s = push_count l (push i s) ∙ omega arith
 
-packed_more : (l : List Interval) (i : Interval) → length l < 73 → push i (packed l) ≡ packed (l ++ (i ∷ []))
-packed_more l i h = (λ j. record { list = padded_more 73 (interval zero64 zero64) l i h j; count = sym (length_more l i) j })
-
 push-packed : (l m : List Interval) → length m + length l ≤ 73 → push_all l (packed m) ≡ packed (m ++ l)
 unfolding push_all
 push-packed [] m h = rw append-nil
 push-packed (i ∷ l) m h =
     let a : length m < 73 = omega arith in
     let b : length (m ++ (i ∷ [])) + length l ≤ 73 = omega (arith, length_more m i) in
-    ap (push_all l) (packed_more m i a) ∙ push-packed l (m ++ (i ∷ [])) b ∙ ap packed (append_assoc m (i ∷ []) l)
+    ap (push_all l) (listed_more (interval zero64 zero64) 73 m i a) ∙ push-packed l (m ++ (i ∷ [])) b ∙ ap packed (append_assoc m (i ∷ []) l)
 
 -- ---- a band being cut: from `begin` on, with these intervals made and so many points left, it ends as r
 pub record Underway (x : List Float) (begin end : Float) (made : Intervals) (left : ℕ) (r : Cutting) : Type 0 where
@@ -101,10 +99,10 @@ module _ {x : List Float} {begin end : Float} {made : Intervals} {left : ℕ} {r
       let z : suc (left - 1) ≡ left = omega arith in
       ap (λ l. over made (cut_band begin end l)) (sym (rising_next x (left - 1) l) ∙ ap (rising_last x) z) ∙ g.rest
 
-  pub cut_stays : {t : Intervals} → 0 < left → lt end a ≡ true → t ≡ push (interval begin end) made → record { intervals = t; left = left } ≡ r
+  pub cut_stays : {t : Intervals} → 0 < left → lt end a ≡ true → t ≡ push (interval begin end) made → record { intervals = t; left = left - 1 + 1 } ≡ r
   unfolding cut_band push_all
   cut_stays {t} h p e =
-      let z : left ≡ suc (length (rising_last x (left - 1))) = omega (arith, length-rising x (left - 1)) in
+      let z : left - 1 + 1 ≡ suc (length (rising_last x (left - 1))) = omega (arith, length-rising x (left - 1)) in
       (λ j. record { intervals = e j; left = z j }) ∙ (rw p at (turn h))
 
   pub cut_at_end : {t : Intervals} → 0 < left → lt end a ≡ false → eq a end ≡ true → t ≡ push (interval begin end) made → record { intervals = t; left = left - 1 } ≡ r
@@ -124,11 +122,11 @@ module _ {x : List Float} {begin end : Float} {made : Intervals} {left : ℕ} {r
       let s : eq begin a ≡ false = other begin a n in
       rw e (record { within = omega (arith, g.within); room = omega (arith, g.room); rest = rw (p, q, s) at (turn h) })
 
-  pub cut_done : {t : Intervals} → left ≤ 0 → t ≡ push (interval begin end) made → record { intervals = t; left = left } ≡ r
+  pub cut_done : {t : Intervals} → left ≤ 0 → t ≡ push (interval begin end) made → record { intervals = t; left = 0 } ≡ r
   unfolding cut_band push_all
   cut_done {t} h e =
       let z : left ≡ 0 = omega arith in
-      (λ j. record { intervals = e j; left = z j }) ∙ (rw (rising_none x) at (rw z at g.rest))
+      (λ j. record { intervals = e j; left = 0 }) ∙ (rw (rising_none x) at (rw z at g.rest))
 
 -- ---- band after band: from band i on, with these intervals made and so many points left, they end as r
 abbrev bands_of : Edges → List Interval

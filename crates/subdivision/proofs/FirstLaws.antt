@@ -14,7 +14,7 @@ use Rattle.numbers.specs.Operations.{◌⊘◌}
 use Rattle.numbers.specs.Outcome.{gave, unless, needed_list_of}
 use Rattle.numbers.proofs.Given.{Passed, gave_same, unless_given, needed_list_given}
 use Rattle.numbers.proofs.Refusing.{Refuses, Only, refuses_unless, refuses_needed_list}
-use Rattle.fir_types.specs.declared.edges.Edges.{Edges}
+use Rattle.fir_types.specs.Edges.{Edges}
 use Rattle.subdivision.specs.First.{total_length, at_start, most_functions, first_points, edges_finite, first_sized, first_for}
 use Rattle.subdivision.proofs.WalkLaws.{length-points}
 

@@ -1,3 +1,4 @@
+pub mod EdgeLaws
 pub mod WalkLaws
 pub mod Bound
 pub mod CutLaws

@@ -1,21 +1,19 @@
 -- The walk along the bands as a loop, and the points as a list written from the front. Assumes nothing.
 use Prim.Native.Nat.{ℕ, zero, suc, ◌+◌, ◌-◌, ◌<◌, ◌≤◌}
 use mathlib.Core.Path.{◌≡◌, refl, ap, ◌∙◌}
-use mathlib.Core.Bool.{Bool, true, false, ◌&&◌, ◌||◌, cond}
-use mathlib.Core.List.{List, [], ◌++◌}
+use mathlib.Core.Bool.{Bool, true, false, ◌||◌, cond}
+use mathlib.Core.List.{List, []}
 use native.Mathlib.Omega.{arith}
-use borrow.Author.Tests.{eqb-false, eq-eqb, ne_eqb, leb-true}
-use lib.Dec.{eqb, leb}
+use borrow.Author.Tests.{eqb-false, eq-eqb, ne_eqb}
+use lib.Dec.{eqb}
 use lib.IntN.{pos}
-use lib.ListN.{length, set, take, drop}
-use lib.Seq.{take_at}
+use lib.ListN.{length, set}
 use lib.Ieee.{Float, binary64, of_int, le}
 use Rattle.numbers.specs.Operations.{◌⊕◌, ◌⊖◌, ◌⊗◌}
 use Rattle.numbers.proofs.Fronts.{Writing, write_next}
-use Rattle.numbers.proofs.Order.{and_1, and_2}
-use Rattle.fir_types.specs.declared.edges.Edges.{Edges}
+use Rattle.fir_types.specs.Edges.{Edges}
 use Rattle.subdivision.specs.declared.first.Walk.{Walk}
-use Rattle.subdivision.specs.First.{band_of, length_of, walked, point_at, points_from, first_sized}
+use Rattle.subdivision.specs.First.{band_of, length_of, walked, point_at, points_from}
 
 -- the walk to the next band
 abbrev passed : Edges → Walk → Walk
@@ -101,18 +99,3 @@ length-points e spacing zero j w = refl
 length-points e spacing (suc n) j w =
     let s = of_int binary64 (pos j) ⊗ spacing in
     ap suc (length-points e spacing n (j + 1) (walked e s e.count w))
-
--- the points at the front of a longer list
-pub points-front : (e : Edges) (spacing : Float) (n : ℕ) (w : Walk) (h l : List Float) → l ≡ points_from e spacing n 0 w ++ drop n h → take n l ≡ points_from e spacing n 0 w
-points-front e spacing n w h l p = rw p (take_at (points_from e spacing n 0 w) (drop n h) n (length-points e spacing n 0 w))
-
--- ---- what the sizes that are taken guarantee
-pub first-sized : (e : Edges) (functions room : ℕ) → first_sized e functions room ≡ true → (1 ≤ e.count) × (e.count ≤ 8) × (functions ≤ 64)
-first-sized e functions room h =
-    let p = and_1 (leb 1 e.count && leb e.count 8 && leb 1 functions && leb functions 64) (leb (functions + 1) room) h in
-    let q = and_1 (leb 1 e.count && leb e.count 8 && leb 1 functions) (leb functions 64) p in
-    let r = and_1 (leb 1 e.count && leb e.count 8) (leb 1 functions) q in (
-      leb-true 1 e.count (and_1 (leb 1 e.count) (leb e.count 8) r),
-      leb-true e.count 8 (and_2 (leb 1 e.count) (leb e.count 8) r),
-      leb-true functions 64 (and_2 (leb 1 e.count && leb e.count 8 && leb 1 functions) (leb functions 64) p),
-    )

@@ -9,7 +9,7 @@ use Rattle.numbers.specs.Loops.{run, every}
 use Rattle.numbers.specs.Operations.{◌⊕◌, ◌⊖◌, ◌⊗◌, ◌⊘◌}
 use Rattle.numbers.specs.Outcome.{Outcome, unless, needed_list_of}
 use Rattle.fir_types.specs.declared.edges.Interval.{Interval}
-use Rattle.fir_types.specs.declared.edges.Edges.{Edges}
+use Rattle.fir_types.specs.Edges.{Edges}
 use Rattle.fir_types.specs.Edges.{interval}
 use Rattle.subdivision.specs.declared.first.Walk.{Walk}
 

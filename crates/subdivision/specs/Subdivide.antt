@@ -6,9 +6,10 @@ use Rattle.numbers.specs.Floats.{zero64, all_finite}
 use Rattle.numbers.specs.Loops.{tab}
 use Rattle.numbers.specs.Outcome.{Outcome, gave, unless}
 use Rattle.fir_types.specs.declared.edges.Interval.{Interval}
-use Rattle.fir_types.specs.declared.edges.Edges.{Edges}
+use Rattle.fir_types.specs.Edges.{Edges}
 use Rattle.fir_types.specs.Edges.{interval}
-use Rattle.subdivision.specs.declared.cuts.Intervals.{Intervals}
+use Rattle.listed.specs.declared.Listed.{Listed}
+use Rattle.listed.specs.Listed.{listed}
 use Rattle.subdivision.specs.declared.cuts.Cutting.{Cutting}
 use Rattle.subdivision.specs.First.{edges_finite}
 
@@ -51,9 +52,12 @@ subdivided x e = cut_bands (take e.count e.list) (rising x)
 abbrev pub most_intervals : ℕ
 most_intervals = 73
 
--- intervals at the front of an array that is zero beyond them
+-- up to so many, zero beyond them
+abbrev pub Intervals : Type 0
+Intervals = Listed Interval most_intervals
+
 abbrev pub packed : List Interval → Intervals
-packed l = record { list = l ++ replicate (most_intervals - length l) (interval zero64 zero64); count = length l }
+packed = listed (interval zero64 zero64) most_intervals
 
 abbrev pub none : Intervals
 none = packed []

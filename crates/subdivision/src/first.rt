@@ -4,7 +4,7 @@ ghost use Rattle.numbers.specs.Refusals.{Filled};
 ghost use Rattle.subdivision.specs.First.{length_of, total_length, walked, point_at, points_from, at_start, first_points, first_sized, first_for};
 
 use fir_types::{Edges, Interval};
-use numbers::{Refusal, Verdict};
+use numbers::Refusal;
 
 // The band that a walk along the bands has reached, and the length of those before it.
 #[derive(Clone, Copy)]
@@ -23,13 +23,9 @@ fn total_length(bands: Edges) -> f64
     requires { bands.count ≤ 8 }
     ensures { result ≡ total_length bands }
 {
-    let n = bands.count;
     let mut total = 0.0;
-    let mut i: usize = 0;
-    while i < n {
-        let b = bands.list[i];
-        total = total + length_of(b);
-        i += 1;
+    for &b in &bands.list[..bands.count] {
+        total += length_of(b);
     }
     total
 }
@@ -40,28 +36,26 @@ fn walk_on(bands: Edges, s: f64, w: Walk) -> Walk
     ensures { result ≡ walked bands s bands.count w }
 {
     let last = bands.count - 1;
-    let mut band = w.band;
     let mut consumed = w.consumed;
-    while band < last {
-        let b = bands.list[band];
-        let band_length = length_of(b);
+    for band in w.band..last {
+        let band_length = length_of(bands.list[band]);
         if s - consumed <= band_length {
             return Walk { band, consumed };
         }
-        consumed = consumed + band_length;
-        band += 1;
+        consumed += band_length;
     }
-    Walk { band, consumed }
+    Walk {
+        band: last,
+        consumed,
+    }
 }
 
 fn point_at(bands: Edges, s: f64, w: Walk) -> f64
     requires { w.band < 8 }
     ensures { result ≡ point_at bands s w }
 {
-    let band = w.band;
-    let b = bands.list[band];
-    let u = s - w.consumed;
-    numbers::smaller(b.end, b.begin + u)
+    let b = bands.list[w.band];
+    numbers::smaller(b.end, b.begin + (s - w.consumed))
 }
 
 fn points_into(bands: Edges, spacing: f64, n: usize, out: &mut [f64])
@@ -72,36 +66,24 @@ fn points_into(bands: Edges, spacing: f64, n: usize, out: &mut [f64])
         band: 0,
         consumed: 0.0,
     };
-    let mut j: usize = 0;
-    while j < n {
+    for j in 0..n {
         let s = numbers::whole(j as u32) * spacing;
-        let v = walk_on(bands, s, w);
-        out[j] = point_at(bands, s, v);
-        w = v;
-        j += 1;
+        w = walk_on(bands, s, w);
+        out[j] = point_at(bands, s, w);
     }
 }
 
 fn is_sized(bands: Edges, functions: usize, room: usize) -> bool
     ensures { result ≡ first_sized bands functions room }
 {
-    let n = bands.count;
-    if n < 1 {
-        return false;
-    }
-    if 8 < n {
-        return false;
-    }
-    if functions < 1 {
-        return false;
-    }
-    if 64 < functions {
-        return false;
-    }
-    functions + 1 <= room
+    1 <= bands.count
+        && bands.count <= 8
+        && 1 <= functions
+        && functions <= 64
+        && functions + 1 <= room
 }
 
-fn points_from(bands: Edges, functions: usize, out: &mut [f64]) -> Verdict
+fn points_from(bands: Edges, functions: usize, out: &mut [f64]) -> Result<(), Refusal>
     requires { (1 ≤ bands.count) × (bands.count ≤ 8) × (functions ≤ 64) }
     ensures { Filled (needed_list_of (first_points bands functions) (length out.old)) (functions + 1) result out.old out.new }
 {
@@ -113,14 +95,19 @@ fn points_from(bands: Edges, functions: usize, out: &mut [f64]) -> Verdict
 }
 
 // The first extremal frequencies of bands in radians, functions + 1 of them, to the front of `out`.
-pub fn initial_extremal_freqs(bands: Edges, functions: usize, out: &mut [f64]) -> Verdict
+#[tactic(auto, unfolding(crate::specs::First::first_for))]
+pub fn initial_extremal_freqs(
+    bands: Edges,
+    functions: usize,
+    out: &mut [f64],
+) -> Result<(), Refusal>
     ensures { Filled (first_for bands functions (length out.old)) (functions + 1) result out.old out.new }
 {
     if !is_sized(bands, functions, out.len()) {
-        return Verdict::Refused(Refusal::Lists);
+        return Err(Refusal::Lists);
     }
     if !crate::are_edges_finite(bands) {
-        return Verdict::Refused(Refusal::NotFinite);
+        return Err(Refusal::NotFinite);
     }
     points_from(bands, functions, out)
 }

@@ -1,7 +1,6 @@
 -- The words of a text: what lies between blanks. A `#` where a word would begin makes a remark, to the end of its line.
-use Rattle.std.specs.Prelude.{ℕ, suc, ◌+◌, Bool, true, false, cond, not, List, [], ◌∷◌, eqb, ltb, length, drop}
-use Rattle.text.specs.declared.Token.{Token}
-use Rattle.text.specs.declared.Token.TheVariants as token
+use Rattle.std.specs.Prelude.{ℕ, suc, ◌+◌, Bool, true, false, cond, not, List, [], ◌∷◌, Option, Some, None, eqb, ltb, length, drop}
+use Rattle.text.specs.declared.Word.{Word}
 
 -- space, newline, carriage return, tab
 unfoldable pub blank : ℕ → Bool
@@ -28,8 +27,16 @@ lead s = before begins remarked false s
 abbrev pub word_length : List ℕ → ℕ
 word_length s = before (λ (u : Unit {0}) b. blank b) (λ u b. u) tt s
 
-abbrev pub word_at : List ℕ → ℕ → Token
-word_at s from = cond (ltb from (length s)) (token.Word from (from + word_length (drop from s))) token.End
+-- a place, where the text goes on there
+abbrev pub place_in : List ℕ → ℕ → Option ℕ
+place_in s from = cond (ltb from (length s)) (Some from) None
 
-unfoldable pub next_of : List ℕ → ℕ → Token
+-- where the next word begins
+abbrev pub start_of : List ℕ → ℕ → Option ℕ
+start_of s at = place_in s (at + lead (drop at s))
+
+abbrev pub word_at : List ℕ → ℕ → Option Word
+word_at s from = cond (ltb from (length s)) (Some (record { from = from; to = from + word_length (drop from s) })) None
+
+unfoldable pub next_of : List ℕ → ℕ → Option Word
 next_of s at = word_at s (at + lead (drop at s))

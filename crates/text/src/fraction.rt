@@ -2,94 +2,86 @@
 ghost use Rattle.std.specs.Prelude.{◌≡◌, false};
 ghost use Rattle.text.specs.Fractions.{with_byte, fraction_from, unsigned_of, fraction_of};
 
-use crate::part;
+use crate::{Word, part};
 
 // Minus or not, the digits without their point, and the power of ten that the point divides them by.
 #[derive(Clone, Copy)]
-pub enum Fraction {
-    Of(bool, u32, u32),
-    Wrong,
+pub struct Fraction {
+    pub minus: bool,
+    pub digits: u32,
+    pub scale: u32,
 }
 
 // The digits so far, their power of ten, and whether the point was passed.
 #[derive(Clone, Copy)]
-enum Partly {
-    Digits(u32, u32, bool),
-    Wrong,
+struct Partly {
+    digits: u32,
+    scale: u32,
+    pointed: bool,
 }
 
-fn with_byte(n: u32, scale: u32, pointed: bool, b: u8) -> Partly
-    ensures { result ≡ with_byte n scale pointed b }
-{
-    if b == b'.' {
-        if pointed {
-            return Partly::Wrong;
+impl Partly {
+    #[tactic(auto, unfolding(crate::specs::Fractions::with_byte))]
+    fn with(self, b: u8) -> Option<Self>
+        ensures { result ≡ with_byte self.digits self.scale self.pointed b }
+    {
+        match b {
+            b'.' if !self.pointed => Some(Partly {
+                pointed: true,
+                ..self
+            }),
+            b'0'..=b'9' if self.digits <= 99_999_999 && self.scale <= 99_999_999 => Some(Partly {
+                digits: self.digits * 10 + (b - b'0') as u32,
+                scale: if self.pointed {
+                    self.scale * 10
+                } else {
+                    self.scale
+                },
+                pointed: self.pointed,
+            }),
+            _ => None,
         }
-        return Partly::Digits(n, scale, true);
     }
-    if b < b'0' {
-        return Partly::Wrong;
-    }
-    if b'9' < b {
-        return Partly::Wrong;
-    }
-    if 99_999_999 < n {
-        return Partly::Wrong;
-    }
-    if 99_999_999 < scale {
-        return Partly::Wrong;
-    }
-    let more = n * 10 + (b - b'0') as u32;
-    if pointed {
-        return Partly::Digits(more, scale * 10, true);
-    }
-    Partly::Digits(more, scale, false)
 }
 
-fn digits(s: &[u8], minus: bool) -> Fraction
+fn digits(s: &[u8], minus: bool) -> Option<Fraction>
     ensures { result ≡ fraction_from minus 0 1 false s.now }
 {
-    let mut n: u32 = 0;
-    let mut scale: u32 = 1;
-    let mut pointed = false;
-    let mut i = 0;
-    while i < s.len() {
-        let Partly::Digits(m, t, p) = with_byte(n, scale, pointed, s[i]) else {
-            return Fraction::Wrong;
-        };
-        n = m;
-        scale = t;
-        pointed = p;
-        i += 1;
+    let mut so_far = Partly {
+        digits: 0,
+        scale: 1,
+        pointed: false,
+    };
+    for &b in s {
+        so_far = so_far.with(b)?;
     }
-    Fraction::Of(minus, n, scale)
+    Some(Fraction {
+        minus,
+        digits: so_far.digits,
+        scale: so_far.scale,
+    })
 }
 
 // Digits with at most one point, the first byte a digit.
-fn unsigned(s: &[u8], minus: bool) -> Fraction
+#[tactic(auto, unfolding(crate::specs::Fractions::unsigned_of))]
+fn unsigned(s: &[u8], minus: bool) -> Option<Fraction>
     ensures { result ≡ unsigned_of minus s.now }
 {
-    if s.len() == 0 {
-        return Fraction::Wrong;
+    match s {
+        [] | [b'.', ..] => None,
+        _ => digits(s, minus),
     }
-    if s[0] == b'.' {
-        return Fraction::Wrong;
-    }
-    digits(s, minus)
 }
 
 // A plain decimal: a minus sign or none, digits, at most one point after the first of them. At most 9 digits, zeros before the first other
 // one not counted, and at most 9 behind the point.
-pub fn plain(s: &[u8], from: usize, to: usize) -> Fraction
-    ensures { result ≡ fraction_of s.now from to }
+#[tactic(auto, unfolding(crate::specs::Fractions::fraction_of, crate::specs::Fractions::unsigned_of))]
+pub fn plain(s: &[u8], word: Word) -> Option<Fraction>
+    ensures { result ≡ fraction_of s.now word.from word.to }
 {
-    let p = part(s, from, to);
-    if p.len() == 0 {
-        return Fraction::Wrong;
-    }
-    if p[0] == b'-' {
-        unsigned(&p[1..], true)
-    } else {
-        unsigned(p, false)
+    let p = part(s, word);
+    match p {
+        [b'-', rest @ ..] => unsigned(rest, true),
+        _ => unsigned(p, false),
     }
 }

@@ -2,199 +2,144 @@
 #![tactic(auto)]
 
 mod fraction;
+mod input;
 
-ghost use Rattle.std.specs.Prelude.{◌≡◌, ◌+◌, drop};
+ghost use Rattle.std.specs.Prelude.{◌≡◌, ◌+◌, ◌≤◌, length, drop};
+ghost use Rattle.std.specs.List.{position};
 ghost use Rattle.text.specs.Parts.{part_of, same};
-ghost use Rattle.text.specs.Words.{blank, begins, remarked, lead, word_length, next_of};
+ghost use Rattle.text.specs.Words.{blank, begins, remarked, lead, word_length, start_of, next_of};
 ghost use Rattle.text.specs.Numerals.{value_of, Short, numeral, hex_of, decimal_of};
 
 pub use fraction::{Fraction, plain};
+pub use input::read_full;
 
-// A word from its first byte to one past its last, or the end of the text.
+// A word from its first byte to one past its last.
 #[derive(Clone, Copy)]
-pub enum Token {
-    Word(usize, usize),
-    End,
+pub struct Word {
+    pub from: usize,
+    pub to: usize,
 }
 
-// The number that digits stand for.
-#[derive(Clone, Copy)]
-pub enum Digits {
-    Value(u64),
-    Wrong,
-}
-
+#[tactic(auto, unfolding(crate::specs::Words::blank))]
 fn is_blank(b: u8) -> bool
     ensures { result ≡ blank b }
 {
-    if b == b' ' {
-        return true;
-    }
-    if b == b'\n' {
-        return true;
-    }
-    if b == b'\r' {
-        return true;
-    }
-    b == b'\t'
+    matches!(b, b' ' | b'\n' | b'\r' | b'\t')
 }
 
+#[tactic(auto, unfolding(crate::specs::Words::begins))]
 fn is_first(remark: bool, b: u8) -> bool
     ensures { result ≡ begins remark b }
 {
-    if remark {
-        return false;
-    }
-    if is_blank(b) {
-        return false;
-    }
-    b != b'#'
+    !remark && !is_blank(b) && b != b'#'
 }
 
+#[tactic(auto, unfolding(crate::specs::Words::remarked))]
 fn is_remark(remark: bool, b: u8) -> bool
     ensures { result ≡ remarked remark b }
 {
     if remark { b != b'\n' } else { b == b'#' }
 }
 
-fn word_start(s: &[u8], at: usize) -> usize
-    ensures { result ≡ at + lead (drop at s.now) }
+fn word_start(s: &[u8], at: usize) -> Option<usize>
+    ensures { result ≡ start_of s.now at }
 {
-    let mut i = at;
     let mut remark = false;
-    while i < s.len() {
-        let b = s[i];
-        if is_first(remark, b) {
-            return i;
+    for i in at..s.len() {
+        if is_first(remark, s[i]) {
+            return Some(i);
         }
-        let still = is_remark(remark, b);
-        remark = still;
-        i += 1;
+        remark = is_remark(remark, s[i]);
     }
-    i
+    None
+}
+
+fn first_blank(s: &[u8]) -> Option<usize>
+    ensures { result ≡ position blank s.now }
+{
+    s.iter().position(|&b| is_blank(b))
 }
 
 fn word_end(s: &[u8], from: usize) -> usize
+    requires { from ≤ length s.now }
     ensures { result ≡ from + word_length (drop from s.now) }
 {
-    let mut i = from;
-    while i < s.len() {
-        if is_blank(s[i]) {
-            return i;
-        }
-        i += 1;
+    match first_blank(&s[from..]) {
+        Some(n) => from + n,
+        None => s.len(),
     }
-    i
 }
 
 // The next word at or after `at`: blanks and remarks before it are passed.
-pub fn next(s: &[u8], at: usize) -> Token
+#[tactic(auto, unfolding(crate::specs::Words::next_of))]
+pub fn next(s: &[u8], at: usize) -> Option<Word>
     ensures { result ≡ next_of s.now at }
 {
-    let from = word_start(s, at);
-    if from < s.len() {
-        Token::Word(from, word_end(s, from))
-    } else {
-        Token::End
-    }
+    let from = word_start(s, at)?;
+    Some(Word {
+        from,
+        to: word_end(s, from),
+    })
 }
 
-pub(crate) fn part(s: &[u8], from: usize, to: usize) -> &[u8]
-    ensures { result.now ≡ part_of s.now from to }
+// The bytes of a word; none where the text has no such part.
+#[tactic(auto, unfolding(crate::specs::Parts::part_of))]
+pub fn part(s: &[u8], word: Word) -> &[u8]
+    ensures { result.now ≡ part_of s.now word.from word.to }
 {
-    if from <= to {
-        if to <= s.len() {
-            &s[from..to]
-        } else {
-            &s[0..0]
-        }
-    } else {
-        &s[0..0]
-    }
+    s.get(word.from..word.to).unwrap_or(&[])
 }
 
-fn value(b: u8) -> u64
+#[tactic(auto, unfolding(crate::specs::Numerals::value_of))]
+fn value(b: u8) -> Option<u64>
     ensures { result ≡ value_of b }
 {
-    let v = b as u64;
-    if v < 48 {
-        return 16;
+    match b {
+        b'0'..=b'9' => Some((b - b'0') as u64),
+        b'a'..=b'f' => Some((b - b'a' + 10) as u64),
+        _ => None,
     }
-    if v <= 57 {
-        return v - 48;
-    }
-    if v < 97 {
-        return 16;
-    }
-    if v <= 102 {
-        return v - 87;
-    }
-    16
 }
 
-fn number(s: &[u8], base: u64) -> Digits
+// Kept: no plainer: the library reads a sign and capital letters too.
+fn number(s: &[u8], base: u64) -> Option<u64>
     requires { Short s.now base }
     ensures { result ≡ numeral base 0 s.now }
 {
     let mut n: u64 = 0;
-    let mut i = 0;
-    while i < s.len() {
-        let v = value(s[i]);
-        if base <= v {
-            return Digits::Wrong;
+    for &b in s {
+        match value(b) {
+            Some(v) if v < base => n = n * base + v,
+            _ => return None,
         }
-        n = n * base + v;
-        i += 1;
     }
-    Digits::Value(n)
+    Some(n)
 }
 
 // The number that exactly 16 hexadecimal digits stand for, those above 9 as small letters.
-pub fn hex(s: &[u8], from: usize, to: usize) -> Digits
-    ensures { result ≡ hex_of s.now from to }
+#[tactic(auto, unfolding(crate::specs::Numerals::hex_of))]
+pub fn hex(s: &[u8], word: Word) -> Option<u64>
+    ensures { result ≡ hex_of s.now word.from word.to }
 {
-    let p = part(s, from, to);
-    if p.len() == 16 {
-        number(p, 16)
-    } else {
-        Digits::Wrong
-    }
+    let p = part(s, word);
+    if p.len() == 16 { number(p, 16) } else { None }
 }
 
 // The number that 1 to 9 decimal digits stand for.
-pub fn decimal(s: &[u8], from: usize, to: usize) -> Digits
-    ensures { result ≡ decimal_of s.now from to }
+#[tactic(auto, unfolding(crate::specs::Numerals::decimal_of))]
+pub fn decimal(s: &[u8], word: Word) -> Option<u64>
+    ensures { result ≡ decimal_of s.now word.from word.to }
 {
-    let p = part(s, from, to);
-    if p.len() == 0 {
-        return Digits::Wrong;
-    }
-    if p.len() <= 9 {
-        number(p, 10)
-    } else {
-        Digits::Wrong
+    let p = part(s, word);
+    match p.len() {
+        1..=9 => number(p, 10),
+        _ => None,
     }
 }
 
-fn is_same(a: &[u8], b: &[u8]) -> bool
-    ensures { result ≡ same a.now b.now }
+// Whether the word is the name; one that is not there is empty.
+pub fn is(s: &[u8], word: Word, name: &[u8]) -> bool
+    ensures { result ≡ same (part_of s.now word.from word.to) name.now }
 {
-    if a.len() != b.len() {
-        return false;
-    }
-    let mut i = 0;
-    while i < a.len() {
-        if a[i] != b[i] {
-            return false;
-        }
-        i += 1;
-    }
-    true
-}
-
-// Whether that part of the text is the name; a part that is not there is empty.
-pub fn is(s: &[u8], from: usize, to: usize, name: &[u8]) -> bool
-    ensures { result ≡ same (part_of s.now from to) name.now }
-{
-    is_same(part(s, from, to), name)
+    part(s, word) == name
 }

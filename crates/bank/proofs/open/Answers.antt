@@ -1,37 +1,13 @@
 -- `bank::open` meets its contract. Assumes nothing.
-use mathlib.Core.Path.{sym, ◌∙◌}
 use mathlib.Core.List.{[]}
-use native.Mathlib.Omega.{arith}
-use Rattle.bank.specs.Sizes.{full}
+use Rattle.std.proofs.lemmas.Result.{err_from_is_err_and}
 use Rattle.bank.specs.Calls.{Call}
-use Rattle.bank.proofs.Laws.{inside}
 use Rattle.bank.proofs.Ending.{ends_refused, ends_done}
 use Rattle.bank.proofs.open.Goals as goal
 
-pub returns-then-g-ne0 : goal.returns-then-g-ne0
-returns-then-g-ne0 c =
-    let at = c in
-    let a = at.args in
-    ends_refused (Call.open' a.request) a.slot a.bank.now a.scratch.now at.gate-g.new.scratch at.gate-g.result c.turned_away.result
-    at.gate-g.ensures.value at.gate-g.ensures.scratch_after c.if-g-ne0.true c.turned_away.ensures
-
-pub overflow_mul-a : goal.overflow_mul-a
-overflow_mul-a c = omega (arith, inside full _ _ _ _ (sym c.gate-g.ensures.value ∙ c.if-g-ne0.false))
-
-pub overflow_add-e : goal.overflow_add-e
-overflow_add-e c = omega (arith, inside full _ _ _ _ (sym c.gate-g.ensures.value ∙ c.if-g-ne0.false))
-
-pub offset_bounds-bank-a : goal.offset_bounds-bank-a
-offset_bounds-bank-a c = omega (arith, inside full _ _ _ _ (sym c.gate-g.ensures.value ∙ c.if-g-ne0.false))
-
-pub slice_bounds-open_slot-end : goal.slice_bounds-open_slot-end
-slice_bounds-open_slot-end c = omega (arith, inside full _ _ _ _ (sym c.gate-g.ensures.value ∙ c.if-g-ne0.false))
+pub returns-in_err-at : goal.returns-in_err-at
+returns-in_err-at c = let p = err_from_is_err_and c.from_residual.result c.from_residual.ensures.1 in rw (p.1, p.2) (ends_refused (Call.open' c.args.request) _ _ _ _ _ c.in_err-at.ensures.value c.gate.ensures.scratch_after)
 
 pub returns : goal.returns
 returns c =
-    let l = c in
-    let at = l in
-    let a = at.args in
-    let d = c.open_slot in
-    ends_done (Call.open' a.request) a.slot a.bank.now a.scratch.now at.gate-g.new.scratch d.new.s at.gate-g.result d.result [] [] []
-    at.gate-g.ensures.value l.if-g-ne0.false at.gate-g.ensures.scratch_after d.ensures
+    ends_done (Call.open' c.args.request) _ _ _ _ _ _ _ [] [] [] c.in_ok-at.ensures.value c.gate.ensures.scratch_after c.in_ok-at.ensures.at.at c.open_slot.ensures

@@ -4,9 +4,6 @@ use mathlib.Core.Bool.{not}
 use Rattle.numbers.proofs.LoopLaws.{seek_start, seek_stop, seek_next, seek_end}
 use Rattle.cases.proofs.are_same.Goals as goal
 
-pub loop-i-init : goal.loop-i-init
-loop-i-init c = seek_start
-
 pub returns-then-not-is_same_at : goal.returns-then-not-is_same_at
 returns-then-not-is_same_at c =
     seek_stop c.loop-i.invariant c.loop-i-test.true (ap not (sym c.is_same_at.ensures ∙ c.if-not-is_same_at.true))

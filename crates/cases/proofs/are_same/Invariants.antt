@@ -7,6 +7,3 @@ use Rattle.cases.proofs.are_same.Given as goal
 
 abbrev pub invariant-loop-i : goal.invariant-loop-i
 invariant-loop-i l = Seeking (λ i. not (same_bits l.a l.b i)) (λ i. false) (λ i s. s) (λ s. true) l.count l.i (tt {0}) (every (same_bits l.a l.b) l.count)
-
-abbrev pub decreases-loop-i : goal.decreases-loop-i
-decreases-loop-i l = l.count - l.i

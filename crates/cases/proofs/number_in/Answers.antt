@@ -1,18 +1,13 @@
 -- `cases::number_in` meets its contract. Assumes nothing.
-use mathlib.Core.Path.{sym, ◌∙◌}
+use Rattle.std.proofs.Common.{sym, ◌∙◌, ne_eqb}
 use lib.Ieee.{of_bits, div}
-use borrow.Author.Tests.{eq-eqb, ne_eqb}
 use Rattle.cases.specs.Cases.{number_in}
 use Rattle.cases.proofs.number_in.Goals as goal
 
 pub returns-in_default : goal.returns-in_default
 unfolding number_in of_bits div
-returns-in_default c = rw (sym c.hex.ensures ∙ c.in_default.is)
+returns-in_default c = rw (sym c.hex.ensures ∙ c.in-Some.is, ← c.of_word.ensures, ← c.to_word.ensures, ne_eqb _ _ c.if-to_word-w.false)
 
-pub returns-then-to_word-w : goal.returns-then-to_word-w
+pub returns-in_default-2 : goal.returns-in_default-2
 unfolding number_in of_bits div
-returns-then-to_word-w c = rw (sym c.hex.ensures ∙ c.in-Value.is, ← c.of_word-x.ensures, ← c.to_word.ensures, eq-eqb _ _ c.if-to_word-w.true)
-
-pub returns-else-to_word-w : goal.returns-else-to_word-w
-unfolding number_in of_bits div
-returns-else-to_word-w c = rw (sym c.hex.ensures ∙ c.in-Value.is, ← c.of_word-x.ensures, ← c.to_word.ensures, ne_eqb _ _ c.if-to_word-w.false)
+returns-in_default-2 c = rw (sym c.hex.ensures ∙ c.in_default.is)

@@ -7,6 +7,3 @@ use Rattle.cases.proofs.numbers_into.Given as goal
 
 abbrev pub invariant-loop-i : goal.invariant-loop-i
 invariant-loop-i l = (length l.out ≡ length l.initial.out) × Underway l.s l.at l.count l.i l.from l.out (numbers_at l.s l.at l.count l.initial.out)
-
-abbrev pub decreases-loop-i : goal.decreases-loop-i
-decreases-loop-i l = l.count - l.i

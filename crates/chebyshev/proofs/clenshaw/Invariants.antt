@@ -14,6 +14,3 @@ invariant-loop-t l = (length l.b1 ≡ 64)
     × (length l.b2 ≡ 64)
     × Going (row (λ k. clenshaw_step l.a (get_or l.x k nan)) (length l.x) no_pair) (length l.a - 2) l.t (pairs (take (length l.x) l.b1) (take (length l.x) l.b2))
     (run (row (λ k. clenshaw_step l.a (get_or l.x k nan)) (length l.x) no_pair) (length l.a - 2) 0 (pairs (take (length l.x) l.initial.b1) (take (length l.x) l.initial.b2)))
-
-abbrev pub decreases-loop-t : goal.decreases-loop-t
-decreases-loop-t l = length l.a - 2 - l.t

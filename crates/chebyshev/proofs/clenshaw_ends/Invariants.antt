@@ -1,4 +1,3 @@
-use Prim.Native.Nat.{◌-◌}
 use mathlib.Core.Path.{◌≡◌}
 use lib.ListN.{length, get_or}
 use lib.Ieee.{nan}
@@ -12,6 +11,3 @@ abbrev pub invariant-loop-k : goal.invariant-loop-k
 invariant-loop-k l = (length l.x ≡ length l.initial.x)
     × Going (change (λ k u. ((u ⊗ get_or l.b1 k nan ⊖ get_or l.b2 k nan) ⊕ l.a0) ⊗ l.scale) nan) (length l.initial.x) l.k l.x
     (ended l.initial.x l.a0 l.scale l.b1 l.b2)
-
-abbrev pub decreases-loop-k : goal.decreases-loop-k
-decreases-loop-k l = length l.initial.x - l.k

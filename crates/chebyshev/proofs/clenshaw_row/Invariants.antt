@@ -1,4 +1,3 @@
-use Prim.Native.Nat.{◌-◌}
 use mathlib.Core.Path.{◌≡◌}
 use lib.ListN.{length, get_or}
 use lib.Ieee.{nan}
@@ -12,6 +11,3 @@ invariant-loop-k l = (length l.b1 ≡ length l.x)
     × (length l.b2 ≡ length l.x)
     × Going (change (λ k. turn (get_or l.x k nan) l.ak) no_pair) (length l.x) l.k (pairs l.b1 l.b2)
     (turned l.x l.ak (pairs l.initial.b1 l.initial.b2))
-
-abbrev pub decreases-loop-k : goal.decreases-loop-k
-decreases-loop-k l = length l.x - l.k

@@ -1,20 +1,16 @@
 -- `text::word_end` meets its contract. Assumes nothing.
-use mathlib.Core.Path.{refl, sym, ◌∙◌}
-use borrow.Author.Rules.{rules}
-use Rattle.text.proofs.Passing.{pass_start, pass_stop, pass_next, pass_end}
+use Rattle.std.proofs.Common.{◌≡◌, sym, ◌∙◌, arith, drop, length-drop}
+use Rattle.text.specs.Words.{word_length}
+use Rattle.text.proofs.Passing.{all_from, word_to, word_to_end}
 use Rattle.text.proofs.word_end.Goals as goal
 
-pub loop-i-init : goal.loop-i-init
-loop-i-init c = pass_start
+pub returns-in-Some : goal.returns-in-Some
+returns-in-Some c =
+    let e : word_length (drop c.args.from c.args.s.now) ≡ c.in-Some.n = word_to _ (rw all_from at (sym c.first_blank.ensures ∙ c.in-Some.is)) in
+    omega arith
 
-pub returns-then-is_blank : goal.returns-then-is_blank
-returns-then-is_blank c = pass_stop c.loop-i.invariant (search rules) (sym c.is_blank.ensures ∙ c.if-is_blank.true)
-
-pub loop-i-preserved : goal.loop-i-preserved
-loop-i-preserved c =
-    pass_next c.loop-i.invariant (search rules)
-    (sym c.is_blank.ensures ∙ c.if-is_blank.false)
-    refl
-
-pub returns : goal.returns
-returns c = pass_end c.loop-i.invariant (search rules)
+pub returns-in-None : goal.returns-in-None
+returns-in-None c =
+    let e = word_to_end (drop c.args.from c.args.s.now) (rw all_from at (sym c.first_blank.ensures ∙ c.in-None.is)) in
+    let k = length-drop c.args.from c.args.s.now in
+    omega arith

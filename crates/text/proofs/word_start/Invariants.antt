@@ -1,11 +1,7 @@
-use Prim.Native.Nat.{◌+◌, ◌-◌}
-use lib.ListN.{length, drop}
+use Rattle.std.proofs.Common.{◌+◌, drop}
 use Rattle.text.specs.Words.{begins, remarked, lead}
 use Rattle.text.proofs.Passing.{Passing}
 use Rattle.text.proofs.word_start.Given as goal
 
 abbrev pub invariant-loop-i : goal.invariant-loop-i
 invariant-loop-i l = Passing begins remarked l.s l.i l.remark (l.at + lead (drop l.at l.s))
-
-abbrev pub decreases-loop-i : goal.decreases-loop-i
-decreases-loop-i l = length l.s - l.i

@@ -3,4 +3,4 @@ use Rattle.bank.proofs.CallLaws.{settled_clear}
 use Rattle.bank.proofs.calls.clear_slot.Goals as goal
 
 pub returns : goal.returns
-returns c = settled_clear _ _ _ c.wipe.ensures c.plainly.ensures
+returns c = settled_clear _ _ c.wipe.ensures

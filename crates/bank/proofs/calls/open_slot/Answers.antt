@@ -1,15 +1,13 @@
 -- `bank::calls::open_slot` meets its contract. Assumes nothing.
-use Rattle.bank.proofs.CallLaws.{fresh_open, fresh_broken, fresh_holds, open_empty}
-use Rattle.bank.proofs.SlotLaws.{is_empty, is_broken, is_holding}
+use Rattle.std.proofs.lemmas.Result.{err_from_is_err_and}
+use Rattle.bank.proofs.CallLaws.{open_refused, open_stopped, open_placed}
 use Rattle.bank.proofs.calls.open_slot.Goals as goal
 
-pub returns-in-Empty : goal.returns-in-Empty
-returns-in-Empty c =
-    open_empty _ _ _ _ c.open.result (is_empty c.load-content.result _ c.load-content.ensures c.in-Empty.is)
-    c.open.ensures c.place.ensures
+pub returns-in_err-vacant : goal.returns-in_err-vacant
+returns-in_err-vacant c = let p = err_from_is_err_and c.from_residual.result c.from_residual.ensures.1 in rw (p.1, p.2) (open_refused _ _ _ c.in_err-vacant.ensures)
 
-pub returns-in-Broken : goal.returns-in-Broken
-returns-in-Broken c = fresh_broken _ (fresh_open _) _ _ (is_broken c.load-content.result _ c.load-content.ensures c.in-Broken.is) c.plainly.ensures
+pub returns-in_err-job : goal.returns-in_err-job
+returns-in_err-job c = let p = err_from_is_err_and c.from_residual-in_err-job.result c.from_residual-in_err-job.ensures.1 in rw (p.1, p.2) (open_stopped _ _ _ c.in_ok-vacant.ensures c.in_err-job.ensures.is)
 
-pub returns-in-Holds : goal.returns-in-Holds
-returns-in-Holds c = fresh_holds _ (fresh_open _) _ _ _ (is_holding c.load-content.result _ c.load-content.ensures c.in-Holds.is) c.occupied.ensures
+pub returns : goal.returns
+returns c = open_placed _ _ _ _ c.in_ok-vacant.ensures c.in_ok-job.ensures.is c.store.ensures

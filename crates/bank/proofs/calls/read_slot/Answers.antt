@@ -1,24 +1,12 @@
 -- `bank::calls::read_slot` meets its contract. Assumes nothing.
-use mathlib.Core.Path.{refl}
-use Rattle.bank.specs.Slot.{empty, broken}
-use Rattle.bank.specs.Calls.{Call}
-use Rattle.bank.proofs.CallLaws.{settled_content}
-use Rattle.bank.proofs.SlotLaws.{is_empty, is_broken, is_holding}
-use Rattle.bank.proofs.ReadLaws.{read_holds}
+use Rattle.std.proofs.lemmas.Result.{err_from_is_err_and}
+use Rattle.bank.proofs.CallLaws.{read_refused, asked_holds}
+use Rattle.bank.proofs.ReadLaws.{read_told, read_holds}
 use Rattle.bank.proofs.calls.read_slot.Goals as goal
 
-pub returns-in-Empty : goal.returns-in-Empty
-returns-in-Empty c =
-    let l = c.load-content in
-    settled_content (Call.read _ _) _ _ empty 3 (is_empty l.result _ l.ensures c.in-Empty.is) refl c.plainly.ensures
+pub returns-in_err-job : goal.returns-in_err-job
+returns-in_err-job c = let p = err_from_is_err_and c.from_residual.result c.from_residual.ensures.1 in rw (p.1, p.2) (read_refused _ _ _ _ c.in_err-job.ensures)
 
-pub returns-in-Broken : goal.returns-in-Broken
-returns-in-Broken c =
-    let l = c.load-content in
-    settled_content (Call.read _ _) _ _ broken 4 (is_broken l.result _ l.ensures c.in-Broken.is) refl c.plainly-in-Broken.ensures
-
-pub returns-in-Holds : goal.returns-in-Holds
-returns-in-Holds c =
-    let l = c.load-content in
-    let p = c.requires in
-    read_holds _ _ _ _ p.1 p.2 _ _ _ (is_holding l.result _ l.ensures c.in-Holds.is) (c.read_job.ensures _)
+pub returns : goal.returns
+returns c =
+    read_holds _ _ _ _ c.requires.1 c.requires.2 _ _ _ (asked_holds _ _ c.in_ok-job.ensures) (read_told _ c.read.result _ _ _ _ _ c.read.ensures)

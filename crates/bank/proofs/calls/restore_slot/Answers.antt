@@ -1,19 +1,16 @@
 -- `bank::calls::restore_slot` meets its contract. Assumes nothing.
-use Rattle.bank.proofs.CallLaws.{fresh_broken, fresh_holds, fresh_restore, restore_empty}
-use Rattle.bank.proofs.SlotLaws.{is_empty, is_broken, is_holding}
+use Rattle.std.proofs.lemmas.Result.{err_from_is_err_and}
+use Rattle.bank.proofs.CallLaws.{restore_refused, restore_unread, restore_stopped, restore_placed}
 use Rattle.bank.proofs.calls.restore_slot.Goals as goal
 
-pub returns-in-Empty : goal.returns-in-Empty
-returns-in-Empty c =
-    let l = c.load-content in
-    restore_empty _ _ _ _ (is_empty l.result _ l.ensures c.in-Empty.is) c.place_image.ensures
+pub returns-in_err-vacant : goal.returns-in_err-vacant
+returns-in_err-vacant c = let p = err_from_is_err_and c.from_residual.result c.from_residual.ensures.1 in rw (p.1, p.2) (restore_refused _ _ _ c.in_err-vacant.ensures)
 
-pub returns-in-Broken : goal.returns-in-Broken
-returns-in-Broken c =
-    let l = c.load-content in
-    fresh_broken _ (fresh_restore _) _ _ (is_broken l.result _ l.ensures c.in-Broken.is) c.plainly.ensures
+pub returns-in_err-fields : goal.returns-in_err-fields
+returns-in_err-fields c = let p = err_from_is_err_and c.from_residual-in_err-fields.result c.from_residual-in_err-fields.ensures.1 in rw (p.1, p.2) (restore_unread _ _ _ c.in_ok-vacant.ensures c.in_err-fields.ensures)
 
-pub returns-in-Holds : goal.returns-in-Holds
-returns-in-Holds c =
-    let l = c.load-content in
-    fresh_holds _ (fresh_restore _) _ _ _ (is_holding l.result _ l.ensures c.in-Holds.is) c.occupied.ensures
+pub returns-in_err-job : goal.returns-in_err-job
+returns-in_err-job c = let p = err_from_is_err_and c.from_residual-in_err-job.result c.from_residual-in_err-job.ensures.1 in rw (p.1, p.2) (restore_stopped _ _ _ _ c.in_ok-vacant.ensures c.in_ok-fields.ensures c.in_err-job.ensures.is)
+
+pub returns : goal.returns
+returns c = restore_placed _ _ _ _ _ c.in_ok-vacant.ensures c.in_ok-fields.ensures c.in_ok-job.ensures.is c.store.ensures

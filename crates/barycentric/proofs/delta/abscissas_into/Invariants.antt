@@ -1,4 +1,3 @@
-use Prim.Native.Nat.{◌-◌}
 use mathlib.Core.Path.{◌≡◌}
 use lib.ListN.{length}
 use Rattle.numbers.proofs.LoopLaws.{Going, put}
@@ -7,6 +6,3 @@ use Rattle.barycentric.proofs.delta.abscissas_into.Given as goal
 
 abbrev pub invariant-loop-k : goal.invariant-loop-k
 invariant-loop-k l = (length l.out ≡ length l.desired) × Going (put (abscissa l.delta l.desired l.weights)) (length l.desired) l.k l.out (abscissas_of l.delta l.desired l.weights)
-
-abbrev pub decreases-loop-k : goal.decreases-loop-k
-decreases-loop-k l = length l.desired - l.k

@@ -1,4 +1,4 @@
-use Prim.Native.Nat.{ℕ, ◌-◌, ◌<◌, ◌≤◌}
+use Prim.Native.Nat.{ℕ, ◌<◌, ◌≤◌}
 use mathlib.Core.Path.{◌≡◌}
 use lib.ListN.{length, get_or}
 use lib.Ieee.{nan}
@@ -9,6 +9,3 @@ use Rattle.barycentric.proofs.weights.products.Given as goal
 abbrev pub invariant-loop-a : goal.invariant-loop-a
 invariant-loop-a l = (0 < l.d) × (l.d ≤ length l.x) × (length l.p ≡ length l.x)
     × ((k : ℕ) → k < length l.x → Going (lane l.x k l.d) l.d l.a (get_or l.p k nan) (product l.x k))
-
-abbrev pub decreases-loop-a : goal.decreases-loop-a
-decreases-loop-a l = l.d - l.a

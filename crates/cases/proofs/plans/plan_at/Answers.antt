@@ -1,20 +1,15 @@
 -- `cases::plans::plan_at` meets its contract. Assumes nothing.
-use borrow.Author.Tests.{lt-ltb}
-use Rattle.cases.specs.Plans.{plan_at}
-use Rattle.cases.proofs.PlanLaws.{plan_start, plan_next, plan_end}
+use Rattle.std.proofs.Common.{sym, ◌∙◌}
+use Rattle.cases.proofs.PlanLaws.{plan_none, plan_next, plan_end}
 use Rattle.cases.proofs.plans.plan_at.Goals as goal
 
-pub returns-then-count-gt-BANDS : goal.returns-then-count-gt-BANDS
-unfolding plan_at
-returns-then-count-gt-BANDS c = rw (c.empty-plan.ensures, lt-ltb _ _ c.if-count-gt-BANDS.true)
-
-pub loop-i-init : goal.loop-i-init
-loop-i-init c = rw c.empty-plan.ensures (plan_start c.if-count-gt-BANDS.false)
+pub returns-in_err-b : goal.returns-in_err-b
+returns-in_err-b c =
+    rw c.from_residual.ensures
+    (plan_none c.loop-i.invariant.1 c.loop-i-test.true (sym c.band_at.ensures ∙ c.in_err-b.was))
 
 pub loop-i-preserved : goal.loop-i-preserved
-loop-i-preserved c =
-    rw (c.both-still.ensures, c.band_at-b.ensures)
-    (plan_next c.loop-i.invariant c.loop-i-test.true)
+loop-i-preserved c = (c.loop-i.invariant.0, plan_next c.loop-i.invariant.1 c.loop-i-test.true (sym c.band_at.ensures ∙ c.in_ok-b.was))
 
 pub returns : goal.returns
-returns c = plan_end c.loop-i.invariant c.loop-i-test.false
+returns c = rw c.loop-i.invariant.0 (plan_end c.loop-i.invariant.1 c.loop-i-test.false)

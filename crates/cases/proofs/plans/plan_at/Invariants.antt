@@ -1,10 +1,7 @@
-use Prim.Native.Nat.{◌-◌}
+use Rattle.std.proofs.Common.{◌≡◌}
 use Rattle.cases.specs.Plans.{plan_at}
 use Rattle.cases.proofs.PlanLaws.{Planning}
 use Rattle.cases.proofs.plans.plan_at.Given as goal
 
 abbrev pub invariant-loop-i : goal.invariant-loop-i
-invariant-loop-i l = Planning l.s l.count l.i l.from l.good l.list (plan_at l.s l.at l.count)
-
-abbrev pub decreases-loop-i : goal.decreases-loop-i
-decreases-loop-i l = l.count - l.i
+invariant-loop-i l = (l.plan.count ≡ l.count) × Planning l.s l.count l.i l.from l.plan.bands (plan_at l.s l.at l.count)

@@ -1,10 +1,7 @@
-use Prim.Native.Nat.{◌-◌, ◌≤◌}
+use Prim.Native.Nat.{◌-◌}
 use mathlib.Core.Path.{◌≡◌}
 use Rattle.colleague.specs.Balance.{balanced_from, balanced_of}
 use Rattle.colleague.proofs.balance.balance_matrix.Given as goal
 
 abbrev pub invariant-loop-made : goal.invariant-loop-made
-invariant-loop-made l = (l.made ≤ 64) × (balanced_from (64 - l.made) l.made l.n l.a ≡ balanced_of l.initial.a l.n)
-
-abbrev pub decreases-loop-made : goal.decreases-loop-made
-decreases-loop-made l = 64 - l.made
+invariant-loop-made l = balanced_from (64 - l.made) l.made l.n l.a ≡ balanced_of l.initial.a l.n

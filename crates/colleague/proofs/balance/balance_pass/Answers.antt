@@ -1,31 +1,26 @@
 -- `colleague::balance::balance_pass` meets its contract. Assumes nothing.
-use Prim.Native.Nat.{◌-◌}
-use mathlib.Core.Path.{◌≡◌, sym}
-use native.Mathlib.Omega.{arith}
+use mathlib.Core.Path.{refl}
 use Rattle.colleague.proofs.BalanceLaws.{pass_by_fact, pass_end}
 use Rattle.colleague.proofs.balance.balance_pass.Goals as goal
-use Rattle.colleague.proofs.balance.balance_pass.Goals.{in-Still, in-Moved}
+use Rattle.colleague.proofs.balance.balance_pass.Goals.{After-balance_row, then-branch, else-branch}
 
-pub loop-j-init : goal.loop-j-init
-loop-j-init c = let e : c.args.n - 0 ≡ c.args.n = omega arith in (omega arith, rw e)
-
-pub returns-in-Stopped : goal.returns-in-Stopped
-returns-in-Stopped c =
+pub returns-in_err-balance_row : goal.returns-in_err-balance_row
+returns-in_err-balance_row c =
     let k = c.loop-j in
-    sym (rw c.in-Stopped.is at (pass_by_fact c.args.n k.j k.a k.moved _ (omega arith) c.balance_row-s.result c.balance_row-s.new.a c.balance_row-s.ensures.0 c.balance_row-s.ensures.1 k.invariant.1))
+    let did = pass_by_fact c.args.n k.j k.a k.moved _ c.loop-j-test.true c.balance_row.result c.balance_row.new.a c.balance_row.ensures.0 c.balance_row.ensures.1 k.invariant in
+    rw (c.from_residual.ensures, ← (rw c.in_err-balance_row.was at did)) (refl, refl)
 
 pub loop-j-preserved : goal.loop-j-preserved
 loop-j-preserved c =
     let k = c.loop-j in
-    let did = pass_by_fact c.args.n k.j k.a k.moved _ (omega arith) c.balance_row-s.result c.balance_row-s.new.a c.balance_row-s.ensures.0 c.balance_row-s.ensures.1 k.invariant.1 in (
-      omega arith,
-      elim c.match-s.branch [
-        | in-Still w ↦ rw w.moved-is (rw w.in-Still.is at did)
-        | in-Moved w ↦ rw w.moved-is (rw w.in-Moved.is at did)
-      ],
-    )
+    let did = pass_by_fact c.args.n k.j k.a k.moved _ c.loop-j-test.true c.balance_row.result c.balance_row.new.a c.balance_row.ensures.0 c.balance_row.ensures.1 k.invariant in
+    elim c.if-branch.branch [
+      | then-branch w ↦ rw w.moved-is (rw (c.in_ok-balance_row.was, w.if-branch.true) at did)
+      | else-branch w ↦ rw w.moved-is (rw (c.in_ok-balance_row.was, w.if-branch.false) at did)
+    ]
 
 pub returns : goal.returns
 returns c =
     let k = c.loop-j in
-    pass_end c.args.n k.j k.a k.moved _ c.loop-j-test.false k.invariant.1
+    let e = pass_end c.args.n k.j k.a k.moved _ c.loop-j-test.false k.invariant in
+    rw e (refl, refl)

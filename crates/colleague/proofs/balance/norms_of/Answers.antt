@@ -1,11 +1,8 @@
 -- `colleague::balance::norms_of` meets its contract. Assumes nothing.
 use borrow.Author.Tests.{eq-eqb, ne_eqb}
-use Rattle.numbers.proofs.LoopLaws.{start, next, end}
+use Rattle.numbers.proofs.LoopLaws.{next, end}
 use Rattle.colleague.proofs.balance.norms_of.Goals as goal
 use Rattle.colleague.proofs.balance.norms_of.Goals.{then-k-j, else-k-j}
-
-pub loop-k-init : goal.loop-k-init
-loop-k-init c = (start, start)
 
 pub loop-k-preserved : goal.loop-k-preserved
 loop-k-preserved c =

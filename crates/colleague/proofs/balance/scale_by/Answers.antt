@@ -1,12 +1,8 @@
 -- `colleague::balance::scale_by` meets its contract. Assumes nothing.
-use mathlib.Core.Path.{refl}
 use borrow.Author.Tests.{eq-eqb, ne_eqb}
-use Rattle.numbers.proofs.LoopLaws.{start, next, end}
+use Rattle.numbers.proofs.LoopLaws.{next, end}
 use Rattle.colleague.proofs.balance.scale_by.Goals as goal
 use Rattle.colleague.proofs.balance.scale_by.Goals.{then-k-j, else-k-j}
-
-pub loop-k-init : goal.loop-k-init
-loop-k-init c = (refl, start)
 
 pub loop-k-preserved : goal.loop-k-preserved
 loop-k-preserved c =

@@ -1,4 +1,3 @@
-use Prim.Native.Nat.{◌-◌}
 use mathlib.Core.Path.{◌≡◌}
 use Rattle.numbers.specs.Floats.{one64}
 use Rattle.numbers.specs.Operations.{◌⊘◌}
@@ -8,6 +7,3 @@ use Rattle.colleague.proofs.balance.scale_by.Given as goal
 
 abbrev pub invariant-loop-k : goal.invariant-loop-k
 invariant-loop-k l = (l.f_recip ≡ one64 ⊘ l.f) × Going (scale_at l.f l.j) l.n l.k l.a (scaled_by l.f l.initial.a l.n l.j)
-
-abbrev pub decreases-loop-k : goal.decreases-loop-k
-decreases-loop-k l = l.n - l.k

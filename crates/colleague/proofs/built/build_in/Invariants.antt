@@ -1,4 +1,3 @@
-use Prim.Native.Nat.{◌-◌}
 use mathlib.Core.Path.{◌≡◌}
 use lib.ListN.{set}
 use Rattle.numbers.proofs.LoopLaws.{Going}
@@ -8,6 +7,3 @@ use Rattle.colleague.proofs.built.build_in.Given as goal
 
 abbrev pub invariant-loop-j : goal.invariant-loop-j
 invariant-loop-j l = (l.scale ≡ over_leading l.ck l.s) × Blank l.j l.a × Going (λ i a. set a i (row_of l.ck l.s i)) l.s l.j l.a (built_of l.ck l.s)
-
-abbrev pub decreases-loop-j : goal.decreases-loop-j
-decreases-loop-j l = l.s - l.j

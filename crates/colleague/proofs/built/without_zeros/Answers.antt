@@ -1,21 +1,10 @@
 -- `colleague::built::without_zeros` meets its contract. Assumes nothing.
-use mathlib.Core.Path.{refl}
-use native.Mathlib.Omega.{arith}
-use Rattle.colleague.proofs.BuiltLaws.{zeros_more, zeros_end, zeros_none}
+use borrow.Author.Rules.{rules}
+use Rattle.colleague.proofs.BuiltLaws.{zeros_all, zeros_last}
 use Rattle.colleague.proofs.built.without_zeros.Goals as goal
 
-pub loop-n-init : goal.loop-n-init
-loop-n-init c = (omega arith, refl)
+pub returns-in-Some : goal.returns-in-Some
+returns-in-Some c = zeros_last _ _ c.in-Some.last (search rules) (search rules) (search rules)
 
-pub loop-n-preserved : goal.loop-n-preserved
-loop-n-preserved c =
-    let k = c.loop-n in
-    (omega arith, zeros_more _ k.n _ k.invariant.1 c.loop-n-test.true c.if-ck-n.true)
-
-pub returns-else-ck-n : goal.returns-else-ck-n
-returns-else-ck-n c =
-    let k = c.loop-n in
-    zeros_end _ k.n _ k.invariant.1 c.loop-n-test.true c.if-ck-n.false
-
-pub returns : goal.returns
-returns c = zeros_none _ c.loop-n.n _ c.loop-n.invariant.1 c.loop-n-test.false
+pub returns-in-None : goal.returns-in-None
+returns-in-None c = zeros_all _ _ (search rules)

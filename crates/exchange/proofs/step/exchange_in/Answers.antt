@@ -1,16 +1,19 @@
 -- `exchange::step::exchange_in` meets its contract. Assumes nothing.
 use Prim.Native.Nat.{◌+◌}
 use mathlib.Core.Path.{ap}
-use Rattle.exchange.proofs.StepLaws.{kept_is, unkept, stuck_is}
+use lib.ListN.{take}
+use Rattle.std.proofs.lemmas.Result.{err_from_is_err_and}
+use Rattle.exchange.proofs.StepLaws.{kept_is, unkept}
 use Rattle.exchange.proofs.step.exchange_in.Goals as goal
 
-pub returns-in-Taken : goal.returns-in-Taken
-returns-in-Taken c =
+pub returns-in_err-kept : goal.returns-in_err-kept
+returns-in_err-kept c =
     let a = c.args in
-    kept_is a.fields a.x.now a.wk.now a.yk.now a.intervals _ _ _ c.is_odd-odd.ensures (ap (λ k. k + 1) c.functions-n.ensures) c.requires.0 c.find_extrema-e.ensures.kept c.in-Taken.is c.renew.ensures
+    let p = err_from_is_err_and c.from_residual.result c.from_residual.ensures.1 in
+    rw (p.1, p.2)
+    (unkept a.fields (take a.i.count a.i.points) (take a.i.count a.i.weights) (take a.i.count a.i.abscissas) a.intervals _ _ (ap (λ k. k + 1) c.functions-n.ensures) c.requires.0 (rw c.target.ensures at c.in_err-kept.ensures.kept))
 
-pub returns-in-Refused : goal.returns-in-Refused
-returns-in-Refused c =
+pub returns : goal.returns
+returns c =
     let a = c.args in
-    stuck_is _ _ c.stuck.ensures.1
-    (unkept a.fields a.x.now a.wk.now a.yk.now a.intervals _ _ _ c.is_odd-odd.ensures (ap (λ k. k + 1) c.functions-n.ensures) c.requires.0 c.find_extrema-e.ensures.kept c.in-Refused.is)
+    kept_is a.fields (take a.i.count a.i.points) (take a.i.count a.i.weights) (take a.i.count a.i.abscissas) a.intervals _ _ (ap (λ k. k + 1) c.functions-n.ensures) c.requires.0 (rw c.target.ensures at c.in_ok-kept.ensures.kept) c.renew.ensures

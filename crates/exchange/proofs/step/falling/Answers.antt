@@ -1,7 +1,6 @@
 -- `exchange::step::falling` meets its contract. Assumes nothing.
-use Prim.Native.Nat.{◌≤◌}
 use mathlib.Core.Path.{refl}
-use lib.ListN.{length, length-set}
+use lib.ListN.{length-set}
 use Rattle.numbers.proofs.LoopLaws.{next, end, fill_start}
 use Rattle.exchange.proofs.StepLaws.{falling_is}
 use borrow.Author.Rules.{rules}
@@ -17,7 +16,4 @@ loop-i-preserved c = (
 )
 
 pub returns : goal.returns
-returns c =
-    let a = c.args in
-    let h : a.n ≤ length a.list = search rules in
-    rw (end c.loop-i.invariant.1 (search rules)) (falling_is a.list a.n h)
+returns c = rw (end c.loop-i.invariant.1 (search rules)) (falling_is c.args.list.now)

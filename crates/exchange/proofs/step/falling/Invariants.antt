@@ -1,4 +1,3 @@
-use Prim.Native.Nat.{◌-◌}
 use mathlib.Core.Path.{◌≡◌}
 use mathlib.Core.List.{◌++◌}
 use lib.ListN.{length, drop, replicate}
@@ -9,7 +8,4 @@ use Rattle.exchange.proofs.StepLaws.{from_last_lem}
 use Rattle.exchange.proofs.step.falling.Given as goal
 
 abbrev pub invariant-loop-i : goal.invariant-loop-i
-invariant-loop-i l = (length l.points ≡ 65) × Going (put (from_last_lem l.list l.n)) l.n l.i l.points (tab (from_last_lem l.list l.n) l.n 0 ++ drop l.n (replicate 65 zero64))
-
-abbrev pub decreases-loop-i : goal.decreases-loop-i
-decreases-loop-i l = l.n - l.i
+invariant-loop-i l = (length l.points ≡ 65) × Going (put (from_last_lem l.list)) (length l.list) l.i l.points (tab (from_last_lem l.list) (length l.list) 0 ++ drop (length l.list) (replicate 65 zero64))

@@ -1,22 +1,15 @@
 -- `exports::matrices::matrix_of` meets its contract. Assumes nothing.
-use mathlib.Core.Path.{refl, ap}
-use lib.ListN.{length, set}
-use Rattle.numbers.proofs.LoopLaws.{next, end}
-use Rattle.roots.proofs.RowLaws.{fill_all}
-use Rattle.colleague.specs.Answer.{row_record}
-use Rattle.exports.specs.Matrices.{matrix_of}
-use Rattle.exports.proofs.MatrixLaws.{side_most}
+use mathlib.Core.Path.{◌≡◌}
+use borrow.Author.Rules.{rules}
+use Rattle.numbers.specs.Loops.{tab}
+use Rattle.exports.specs.Matrices.{row_from, matrix_of}
+use Rattle.exports.proofs.ArrayLaws.{made_by}
 use Rattle.exports.proofs.matrices.matrix_of.Goals as goal
-
-pub loop-i-init : goal.loop-i-init
-loop-i-init c = fill_all _ _ _ refl
-
-pub row_from-row-requires : goal.row_from-row-requires
-row_from-row-requires c = let m = side_most (length c.args.entries.now) in (rw c.side_of-size.ensures m, c.loop-i-test.true)
-
-pub loop-i-preserved : goal.loop-i-preserved
-loop-i-preserved c = next c.loop-i.invariant c.loop-i-test.true (ap (λ r. set c.loop-i.rows c.loop-i.i (row_record r)) c.row_from-row.ensures)
 
 pub returns : goal.returns
 unfolding matrix_of
-returns c = rw (end c.loop-i.invariant c.loop-i-test.false, c.side_of-size.ensures)
+returns c =
+    let a = c.args.entries.now in
+    let e : c.from_fn-rows.result ≡ tab (row_from a c.side_of-size.result) 15 0 =
+    made_by _ _ (row_from a c.side_of-size.result) (λ q i y k. (search rules, search rules)) _ _ c.from_fn-rows.ensures.items in
+    rw (e, c.side_of-size.ensures.side)

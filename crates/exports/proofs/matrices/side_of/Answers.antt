@@ -14,10 +14,10 @@ pub overflow_mul-s : goal.overflow_mul-s
 overflow_mul-s c = let m = product_most c.loop-s.s c.loop-s.s 15 15 (omega (arith, c.loop-s-test.true)) (omega (arith, c.loop-s-test.true)) in search (rules, m)
 
 pub returns-then-n-s : goal.returns-then-n-s
-returns-then-n-s c = seek_stop c.loop-s.invariant c.loop-s-test.true (eq-eqb _ _ c.if-n-s.true)
+returns-then-n-s c = record { side = seek_stop c.loop-s.invariant c.loop-s-test.true (eq-eqb _ _ c.if-n-s.true); most = omega arith }
 
 pub loop-s-preserved : goal.loop-s-preserved
 loop-s-preserved c = seek_next c.loop-s.invariant c.loop-s-test.true (ne_eqb _ _ c.if-n-s.false) refl
 
 pub returns : goal.returns
-returns c = seek_end c.loop-s.invariant c.loop-s-test.false
+returns c = record { side = seek_end c.loop-s.invariant c.loop-s-test.false; most = omega arith }

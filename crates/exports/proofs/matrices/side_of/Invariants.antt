@@ -1,4 +1,4 @@
-use Prim.Native.Nat.{◌-◌, ◌*◌}
+use Prim.Native.Nat.{◌*◌}
 use lib.Dec.{eqb}
 use Rattle.numbers.proofs.LoopLaws.{Seeking}
 use Rattle.exports.specs.Matrices.{side_of}
@@ -6,6 +6,3 @@ use Rattle.exports.proofs.matrices.side_of.Given as goal
 
 abbrev pub invariant-loop-s : goal.invariant-loop-s
 invariant-loop-s l = Seeking (λ s. eqb l.n (s * s)) (λ s. s) (λ s u. u) (λ u. 16) 16 l.s (tt {0}) (side_of l.n)
-
-abbrev pub decreases-loop-s : goal.decreases-loop-s
-decreases-loop-s l = 16 - l.s

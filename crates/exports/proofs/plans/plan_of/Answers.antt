@@ -1,35 +1,19 @@
 -- `exports::plans::plan_of` meets its contract. Assumes nothing.
-use mathlib.Core.Path.{sym, ◌∙◌}
+use mathlib.Core.Path.{◌≡◌, sym}
+use borrow.Author.Rules.{rules}
 use Rattle.numbers.specs.Loops.{tab}
-use Rattle.exports.specs.Plans.{plan_of}
+use Rattle.exports.specs.Plans.{plan_of, band_from}
+use Rattle.exports.proofs.ArrayLaws.{made_by}
+use Rattle.exports.proofs.plans.plan_of.Goals.{then-are_matched, else-are_matched}
 use Rattle.exports.proofs.plans.plan_of.Goals as goal
 
-pub returns-then-are_matched : goal.returns-then-are_matched
-unfolding plan_of tab
-returns-then-are_matched c =
-    rw (
-      sym c.are_matched.ensures ∙ c.if-are_matched.true,
-      c.band_from.ensures,
-      c.band_from-2.ensures,
-      c.band_from-3.ensures,
-      c.band_from-4.ensures,
-      c.band_from-5.ensures,
-      c.band_from-6.ensures,
-      c.band_from-7.ensures,
-      c.band_from-8.ensures,
-    )
-
-pub returns-else-are_matched : goal.returns-else-are_matched
-unfolding plan_of tab
-returns-else-are_matched c =
-    rw (
-      sym c.are_matched.ensures ∙ c.if-are_matched.false,
-      c.band_from.ensures,
-      c.band_from-2.ensures,
-      c.band_from-3.ensures,
-      c.band_from-4.ensures,
-      c.band_from-5.ensures,
-      c.band_from-6.ensures,
-      c.band_from-7.ensures,
-      c.band_from-8.ensures,
-    )
+pub returns : goal.returns
+unfolding plan_of
+returns c =
+    let e : c.from_fn.result ≡ tab (band_from c.args.kinds.now c.args.numbers.now) 8 0 =
+    made_by _ _ (band_from c.args.kinds.now c.args.numbers.now) (λ q i y k. (search rules, search rules)) _ _ c.from_fn.ensures.items in
+    rw e
+    (elim c.if-are_matched.branch [
+      | then-are_matched w ↦ rw (w.count-is, sym w.if-are_matched.ensures)
+      | else-are_matched w ↦ rw (w.count-is, sym w.if-are_matched.ensures)
+    ])

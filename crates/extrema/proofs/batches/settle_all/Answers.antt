@@ -1,20 +1,19 @@
 -- `extrema::batches::settle_all` meets its contract. Assumes nothing.
 use mathlib.Core.Path.{refl, ◌∙◌}
 use native.Mathlib.Omega.{arith}
+use Rattle.std.proofs.lemmas.Result.{err_from_is_err_and}
 use Rattle.extrema.proofs.BatchLaws.{settled_none, settled_then}
-use Rattle.extrema.proofs.BatchStages.{front_stays, tried_not, tried_end}
+use Rattle.extrema.proofs.BatchStages.{front_stays, tried_not}
 use Rattle.extrema.proofs.batches.settle_all.Goals as goal
 
 pub loop-i-init : goal.loop-i-init
 loop-i-init c = (omega arith, omega arith, refl, refl, settled_none _ _ _)
 
-pub returns-then-not-settle : goal.returns-then-not-settle
-returns-then-not-settle c =
+pub returns-in_err-settle : goal.returns-in_err-settle
+returns-in_err-settle c =
     let l = c.loop-i in
-    tried_not _ (front_stays _ _ _ l.invariant.0 l.invariant.2 c.settle.ensures.front) (c.settle.ensures.long ∙ l.invariant.3)
-
-pub loop-i-smaller : goal.loop-i-smaller
-loop-i-smaller c = omega (arith, c.together-m.ensures.2 (omega arith))
+    let p = err_from_is_err_and c.from_residual.result c.from_residual.ensures.1 in
+    rw (p.1, p.2) (tried_not _ (front_stays _ _ _ l.invariant.0 l.invariant.2 c.settle.ensures.front) (c.settle.ensures.long ∙ l.invariant.3))
 
 pub loop-i-preserved : goal.loop-i-preserved
 loop-i-preserved c =
@@ -24,10 +23,5 @@ loop-i-preserved c =
       omega arith,
       front_stays _ _ _ l.invariant.0 l.invariant.2 t.front,
       t.long ∙ l.invariant.3,
-      settled_then _ (omega arith) l.invariant.4 (t.settled (c.if-not-settle.false)),
+      settled_then _ (omega arith) l.invariant.4 (t.settled c.in_ok-settle.was),
     )
-
-pub returns : goal.returns
-returns c =
-    let l = c.loop-i in
-    tried_end _ (omega arith) l.invariant.4 l.invariant.2 l.invariant.3

@@ -1,11 +1,8 @@
 -- `extrema::candidates::put_all` meets its contract. Assumes nothing.
 use native.Mathlib.Omega.{arith}
 use Rattle.numbers.proofs.FiniteLaws.{finite_at}
-use Rattle.extrema.proofs.CandidateLaws.{finite_written, put_start, put_next, put_end}
+use Rattle.extrema.proofs.CandidateLaws.{finite_written, put_next, put_end}
 use Rattle.extrema.proofs.candidates.put_all.Goals as goal
-
-pub loop-i-init : goal.loop-i-init
-loop-i-init c = put_start
 
 pub loop-i-preserved : goal.loop-i-preserved
 loop-i-preserved c =

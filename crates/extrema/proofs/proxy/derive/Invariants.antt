@@ -11,6 +11,3 @@ use Rattle.extrema.proofs.proxy.derive.Given as goal
 abbrev pub invariant-loop-i : goal.invariant-loop-i
 invariant-loop-i l = (length l.out ≡ length l.a - 1)
     × Going (put (λ k. whole (k + 1) ⊗ get_or l.a (k + 1) nan)) (length l.a - 1) l.i l.out (derivative l.a)
-
-abbrev pub decreases-loop-i : goal.decreases-loop-i
-decreases-loop-i l = length l.a - 1 - l.i

@@ -1,4 +1,3 @@
-use Prim.Native.Nat.{◌-◌}
 use mathlib.Core.Path.{◌≡◌}
 use lib.ListN.{length, get_or}
 use lib.Ieee.{nan}
@@ -11,6 +10,3 @@ use Rattle.extrema.proofs.proxy.scale_onto.Given as goal
 abbrev pub invariant-loop-i : goal.invariant-loop-i
 invariant-loop-i l = (length l.out ≡ length l.places)
     × Going (put (λ k. (get_or l.places k nan ⊕ one64) ⊗ l.scale ⊕ l.begin)) (length l.places) l.i l.out (tab (λ k. (get_or l.places k nan ⊕ one64) ⊗ l.scale ⊕ l.begin) (length l.places) 0)
-
-abbrev pub decreases-loop-i : goal.decreases-loop-i
-decreases-loop-i l = length l.places - l.i

@@ -1,7 +1,6 @@
 -- `extrema::pruned::chosen_from` meets its contract. Assumes nothing.
-use mathlib.Core.Path.{◌≡◌, refl}
-use native.Mathlib.Omega.{arith}
-use lib.ListN.{length, length-set}
+use mathlib.Core.Path.{refl}
+use lib.ListN.{length-set}
 use Rattle.numbers.proofs.LoopLaws.{next, end, fill_start}
 use Rattle.pruning.specs.Candidates.{all}
 use Rattle.extrema.proofs.PrunedLaws.{packs}
@@ -9,7 +8,7 @@ use borrow.Author.Rules.{rules}
 use Rattle.extrema.proofs.pruned.chosen_from.Goals as goal
 
 pub loop-i-init : goal.loop-i-init
-loop-i-init c = rw c.none-k.ensures (refl, fill_start _ _ _ (search rules))
+loop-i-init c = (refl, fill_start _ _ _ (search rules))
 
 pub loop-i-preserved : goal.loop-i-preserved
 loop-i-preserved c = (
@@ -20,6 +19,4 @@ loop-i-preserved c = (
 pub returns : goal.returns
 returns c =
     let a = c.args in
-    let v = c.loop-i in
-    let n : v.i ≡ length a.places.now = omega (arith, v.invariant.1.within, c.loop-i-test.false) in
-    rw (n, end v.invariant.1 c.loop-i-test.false) (packs (all a.words.now) a.places.now c.requires)
+    rw (end c.loop-i.invariant.1 c.loop-i-test.false) (packs (all a.words.now) a.places.now c.requires)

@@ -1,4 +1,3 @@
-use Prim.Native.Nat.{◌-◌}
 use mathlib.Core.Path.{◌≡◌}
 use mathlib.Core.List.{◌++◌}
 use lib.ListN.{length, get_or, drop, replicate}
@@ -8,8 +7,5 @@ use Rattle.extrema.specs.Extrema.{chosen}
 use Rattle.extrema.proofs.pruned.chosen_from.Given as goal
 
 abbrev pub invariant-loop-i : goal.invariant-loop-i
-invariant-loop-i l = (length l.k.list ≡ 65)
-    × Going (put (λ i. get_or (all l.words) (get_or l.places i 0) none)) (length l.places) l.i l.k.list (chosen (all l.words) l.places ++ drop (length l.places) (replicate 65 none))
-
-abbrev pub decreases-loop-i : goal.decreases-loop-i
-decreases-loop-i l = length l.places - l.i
+invariant-loop-i l = (length l.list ≡ 65)
+    × Going (put (λ i. get_or (all l.words) (get_or l.places i 0) none)) (length l.places) l.i l.list (chosen (all l.words) l.places ++ drop (length l.places) (replicate 65 none))

@@ -1,18 +1,8 @@
 -- `image::reading::bands_in` meets its contract. Assumes nothing.
-use mathlib.Core.Path.{ap}
-use lib.ListN.{set}
-use Rattle.numbers.proofs.LoopLaws.{next, end}
-use Rattle.packing.proofs.Laws.{whole_start}
-use borrow.Author.Rules.{rules}
+use Rattle.std.proofs.Common.{rules, ◌/◌, ◌%◌}
+use Rattle.fields.proofs.ArrayLaws.{made_is}
+use Rattle.image.specs.Image.{band_word}
 use Rattle.image.proofs.reading.bands_in.Goals as goal
 
-pub loop-k-init : goal.loop-k-init
-loop-k-init c = whole_start _ 64 _ (search rules)
-
-pub loop-k-preserved : goal.loop-k-preserved
-loop-k-preserved c =
-    let l = c.loop-k in
-    next l.invariant c.loop-k-test.true (ap (set l.out l.k) c.band_word.ensures)
-
 pub returns : goal.returns
-returns c = end c.loop-k.invariant c.loop-k-test.false
+returns c = made_is (λ k. band_word c.args.s.now (k / 8) (k % 8)) c.from_fn.ensures.items (λ k y q p e. search rules)

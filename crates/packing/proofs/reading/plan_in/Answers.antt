@@ -1,18 +1,8 @@
 -- `packing::reading::plan_in` meets its contract. Assumes nothing.
-use Rattle.numbers.specs.Loops.{tab}
+use Rattle.std.proofs.Common.{rules}
+use Rattle.fields.proofs.ArrayLaws.{made_is}
+use Rattle.packing.specs.Packing.{band_in}
 use Rattle.packing.proofs.reading.plan_in.Goals as goal
 
 pub returns : goal.returns
-unfolding tab
-returns c =
-    rw (
-      c.at.ensures,
-      c.band_in.ensures,
-      c.band_in-2.ensures,
-      c.band_in-3.ensures,
-      c.band_in-4.ensures,
-      c.band_in-5.ensures,
-      c.band_in-6.ensures,
-      c.band_in-7.ensures,
-      c.band_in-8.ensures,
-    )
+returns c = let bands = made_is (band_in c.args.words.now) c.from_fn.ensures.items (λ k y q p e. search rules) in rw bands (search rules)

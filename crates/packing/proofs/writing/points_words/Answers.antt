@@ -1,18 +1,8 @@
 -- `packing::writing::points_words` meets its contract. Assumes nothing.
-use mathlib.Core.Path.{ap}
-use lib.ListN.{set}
-use Rattle.numbers.proofs.LoopLaws.{next, end}
-use Rattle.packing.proofs.Laws.{whole_start}
-use borrow.Author.Rules.{rules}
+use Rattle.std.proofs.Common.{rules}
+use Rattle.fields.proofs.ArrayLaws.{made_is}
+use Rattle.packing.specs.Packing.{point_word}
 use Rattle.packing.proofs.writing.points_words.Goals as goal
 
-pub loop-i-init : goal.loop-i-init
-loop-i-init c = whole_start _ 65 _ (search rules)
-
-pub loop-i-preserved : goal.loop-i-preserved
-loop-i-preserved c =
-    let l = c.loop-i in
-    next l.invariant c.loop-i-test.true (ap (set l.out l.i) c.point_word.ensures)
-
 pub returns : goal.returns
-returns c = rw c.points_held-held.ensures at (end c.loop-i.invariant c.loop-i-test.false)
+returns c = made_is (point_word c.args.fields) c.from_fn.ensures.items (λ k y q p e. search rules)

@@ -3,6 +3,3 @@ use Rattle.pruning.proofs.candidates.insert_at.Given as goal
 
 abbrev pub invariant-loop-k : goal.invariant-loop-k
 invariant-loop-k l = Moving l.initial.words l.i l.c l.k l.words
-
-abbrev pub decreases-loop-k : goal.decreases-loop-k
-decreases-loop-k l = l.k

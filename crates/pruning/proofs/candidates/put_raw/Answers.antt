@@ -1,11 +1,7 @@
 -- `pruning::candidates::put_raw` meets its contract. Assumes nothing.
 use native.Mathlib.Omega.{arith}
-use lib.ListN.{length-set}
 use Rattle.pruning.proofs.ViewLaws.{put_is}
 use Rattle.pruning.proofs.candidates.put_raw.Goals as goal
-
-pub bounds-words-i-2 : goal.bounds-words-i-2
-bounds-words-i-2 c = simp length-set (omega arith)
 
 pub returns : goal.returns
 returns c = put_is c.args.words.now c.args.i c.args.r (omega arith)

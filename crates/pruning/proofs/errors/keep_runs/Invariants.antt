@@ -1,4 +1,3 @@
-use Prim.Native.Nat.{◌-◌}
 use mathlib.Core.Path.{◌≡◌}
 use lib.ListN.{length}
 use Rattle.pruning.specs.Prune.{runs}
@@ -11,6 +10,3 @@ invariant-loop-i l = (length l.kept ≡ length l.initial.kept)
     × (l.below ≡ negative_at l.errors l.b)
     × (l.largest ≡ size_at l.errors l.b)
     × Running (negative_at l.errors) (size_at l.errors) (λ k. k) (length l.errors) l.i l.m l.b l.kept (runs (negative_at l.errors) (size_at l.errors) (places_of l.errors))
-
-abbrev pub decreases-loop-i : goal.decreases-loop-i
-decreases-loop-i l = length l.errors - l.i

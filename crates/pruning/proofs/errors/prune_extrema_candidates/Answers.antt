@@ -2,7 +2,6 @@
 use mathlib.Core.Path.{sym, ◌∙◌}
 use Rattle.numbers.proofs.OutcomeLaws.{fills_none}
 use Rattle.pruning.specs.Errors.{prune_for}
-use Rattle.pruning.proofs.Places.{fitting}
 use Rattle.pruning.proofs.errors.prune_extrema_candidates.Goals as goal
 
 pub returns-then-not-is_sized : goal.returns-then-not-is_sized
@@ -17,11 +16,6 @@ returns-then-not-all_finite c =
       sym c.is_sized.ensures ∙ c.if-not-is_sized.false,
       sym c.all_finite.ensures ∙ c.if-not-all_finite.true,
     ))
-
-pub prune_finite-requires : goal.prune_finite-requires
-prune_finite-requires c =
-    let s = c in
-    fitting _ _ _ (sym s.is_sized.ensures ∙ s.if-not-is_sized.false)
 
 pub returns : goal.returns
 unfolding prune_for

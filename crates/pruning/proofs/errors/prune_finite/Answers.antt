@@ -1,6 +1,5 @@
 -- `pruning::errors::prune_finite` meets its contract. Assumes nothing.
 use Prim.Native.Nat.{◌≤◌}
-use mathlib.Core.Path.{sym}
 use native.Mathlib.Omega.{arith}
 use lib.ListN.{length, take}
 use lib.Seq.{length-take-le}
@@ -18,18 +17,6 @@ returns-then-m-n c =
     let f : k.result ≤ length k.new.kept = omega arith in
     fills_none (too_few (negative_at e) (size_at e) a.n k.result k.new.kept (places_of e) f k.ensures.1 c.if-m-n.true)
 
-pub slice_bounds-copy_places-end : goal.slice_bounds-copy_places-end
-slice_bounds-copy_places-end c =
-    let n = c.args.n in
-    let u = c.cut_to.new.kept in
-    sym (length-take-le n u (omega arith))
-
-pub copy_places-requires : goal.copy_places-requires
-copy_places-requires c =
-    let n = c.args.n in
-    let u = c.cut_to.new.kept in
-    omega (arith, length-take-le n u (omega arith))
-
 pub returns : goal.returns
 unfolding kept_places
 returns c =
@@ -43,4 +30,4 @@ returns c =
     c.if-m-n.false
     c.cut_to.ensures)
     (length-take-le a.n u (omega arith))
-    c.copy_places.ensures
+    (rw (c.copy_from_slice.ensures.after, length-take-le a.n u (omega arith)))

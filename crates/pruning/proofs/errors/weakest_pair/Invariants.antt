@@ -1,4 +1,3 @@
-use Prim.Native.Nat.{◌-◌}
 use mathlib.Core.Path.{◌≡◌}
 use lib.ListN.{get_or}
 use Rattle.pruning.specs.Errors.{negative_at, size_at}
@@ -7,6 +6,3 @@ use Rattle.pruning.proofs.errors.weakest_pair.Given as goal
 
 abbrev pub invariant-loop-k : goal.invariant-loop-k
 invariant-loop-k l = (l.last ≡ size_at l.errors (get_or l.kept l.k 0)) × Seeking (negative_at l.errors) (size_at l.errors) l.kept 0 l.n l.k l.best l.v
-
-abbrev pub decreases-loop-k : goal.decreases-loop-k
-decreases-loop-k l = l.n - l.k

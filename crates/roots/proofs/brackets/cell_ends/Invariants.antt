@@ -1,4 +1,4 @@
-use Prim.Native.Nat.{◌-◌}
+use Prim.Native.Nat.{◌+◌}
 use mathlib.Core.Path.{◌≡◌}
 use lib.ListN.{length}
 use Rattle.numbers.specs.Loops.{tab}
@@ -6,8 +6,5 @@ use Rattle.numbers.proofs.LoopLaws.{Going, put}
 use Rattle.roots.specs.Brackets.{cell_end}
 use Rattle.roots.proofs.brackets.cell_ends.Given as goal
 
-abbrev pub invariant-loop-j : goal.invariant-loop-j
-invariant-loop-j l = (length l.x ≡ 65) × Going (put cell_end) 65 l.j l.x (tab cell_end 65 0)
-
-abbrev pub decreases-loop-j : goal.decreases-loop-j
-decreases-loop-j l = 65 - l.j
+abbrev pub invariant-loop-k : goal.invariant-loop-k
+invariant-loop-k g l = (length l.x ≡ g.row.N) × Going (put (λ k. cell_end (l.j + k))) g.row.N l.k l.x (tab (λ k. cell_end (l.j + k)) g.row.N 0)

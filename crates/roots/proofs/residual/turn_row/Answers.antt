@@ -3,34 +3,36 @@ use mathlib.Core.Path.{◌≡◌, ap, sym, ◌∙◌}
 use native.Mathlib.Omega.{arith}
 use lib.ListN.{set, length, get_or, length-set}
 use lib.Ieee.{nan}
+use borrow.Author.Rules.{rules}
 use Rattle.numbers.proofs.LoopLaws.{next, end}
 use Rattle.numbers.proofs.InPlace.{change_start, zip_length, zip_get, zip_set}
-use Rattle.roots.specs.Residual.{turn_by}
-use Rattle.roots.specs.Rows.{both, turns, no_turn}
+use Rattle.roots.specs.Residual.{turn_on}
+use Rattle.roots.specs.Rows.{both, turns, no_turn, turn_of}
 use Rattle.roots.proofs.residual.turn_row.Goals as goal
 
 pub loop-k-init : goal.loop-k-init
-loop-k-init c =
-    let b = c in
-    let g = b.args in
-    let h : length g.n.now ≡ length g.v.now = omega (arith, b.requires.0, b.requires.1) in (
-      b.requires.0,
-      b.requires.1,
-      change_start (λ k. turn_by g.j g.right g.first g.left (get_or g.x.now k nan)) no_turn _ _ (sym (zip_length both g.n.now g.v.now h ∙ b.requires.0)),
+loop-k-init g c =
+    let m : length c.args.n.now ≡ g.row.N = search rules in
+    let w : length c.args.v.now ≡ g.row.N = search rules in (
+      m,
+      w,
+      λ q over. change_start (turn_of c.args.j q c.args.first c.args.left c.args.x.now) no_turn _ _ (sym (zip_length both c.args.n.now c.args.v.now (m ∙ sym w) ∙ m)),
     )
 
 pub loop-k-preserved : goal.loop-k-preserved
-loop-k-preserved c =
+loop-k-preserved g c =
     let l = c.loop-k in
-    let g = c.args in (
+    let t = c.next_turn-t in (
       simp length-set l.invariant.0,
       simp length-set l.invariant.1,
-      next l.invariant.2 c.loop-k-test.true
-          (zip_set both l.n l.v l.k c.next_turn-t.result.n c.next_turn-t.result.v
+      λ q over.
+          next (l.invariant.2 q over) c.loop-k-test.true
+          (zip_set both l.n l.v l.k t.result.n t.result.v
           ∙ ap (set (turns l.n l.v) l.k)
-          (c.next_turn-t.ensures
-          ∙ ap (turn_by g.j g.right g.first g.left (get_or g.x.now l.k nan)) (sym (zip_get both l.n l.v l.k nan nan no_turn (omega arith) (omega arith))))),
+          (t.ensures
+          ∙ ap (λ w. turn_on c.args.j w c.args.first c.args.left (get_or c.args.x.now l.k nan) (get_or l.v l.k nan)) (over _ _ c.over.ensures)
+          ∙ ap (turn_of c.args.j q c.args.first c.args.left c.args.x.now l.k) (sym (zip_get both l.n l.v l.k nan nan no_turn (omega (arith, l.invariant.0)) (omega (arith, l.invariant.1)))))),
     )
 
 pub returns : goal.returns
-returns c = end c.loop-k.invariant.2 c.loop-k-test.false
+returns g c = record { lengths = (c.loop-k.invariant.0, c.loop-k.invariant.1); turned = λ q over. end (c.loop-k.invariant.2 q over) c.loop-k-test.false }

@@ -11,6 +11,3 @@ invariant-loop-j l = (length l.out ≡ length l.initial.out)
     × (l.j ≤ l.n)
     × (l.w.band < l.bands.count)
     × Writing l.n l.j l.out (points_from l.bands l.spacing (l.n - l.j) l.j l.w) (points_from l.bands l.spacing l.n 0 at_start ++ drop l.n l.initial.out)
-
-abbrev pub decreases-loop-j : goal.decreases-loop-j
-decreases-loop-j l = l.n - l.j

@@ -3,15 +3,11 @@ use mathlib.Core.Path.{sym, ◌∙◌}
 use Rattle.exchange.proofs.JobLaws.{no_job, disagreeing, agreeing}
 use Rattle.exchange.proofs.job.Job.loaded.Goals as goal
 
-pub returns-in-Refused : goal.returns-in-Refused
-returns-in-Refused c = no_job _ _ _ c.accept-a.ensures.is c.in-Refused.is
+pub returns-in-Ok-clause-outcome : goal.returns-in-Ok-clause-outcome
+returns-in-Ok-clause-outcome c = agreeing _ c.in-Ok.ensures (sym c.does_agree.ensures ∙ c.if-does_agree.true)
 
-pub returns-then-not-does_agree : goal.returns-then-not-does_agree
-returns-then-not-does_agree c =
-    disagreeing _ _ _ c.accept-a.ensures.is c.in_default.is
-    (sym c.does_agree.ensures ∙ c.if-not-does_agree.true)
+pub returns-in_default-clause-outcome : goal.returns-in_default-clause-outcome
+returns-in_default-clause-outcome c = disagreeing _ c.in-Ok.ensures (sym c.does_agree.ensures ∙ c.if-does_agree.false)
 
-pub returns : goal.returns
-returns c =
-    agreeing _ _ _ c.accept-a.ensures.is c.in_default.is
-    (sym c.does_agree.ensures ∙ c.if-not-does_agree.false)
+pub returns-in_default-2-clause-outcome : goal.returns-in_default-2-clause-outcome
+returns-in_default-2-clause-outcome c = no_job _ c.in_default.ensures

@@ -1,9 +1,0 @@
--- `barycentric::is_sized` meets its contract. Assumes nothing.
-use borrow.Author.Tests.{le-leb, lt-leb}
-use Rattle.barycentric.proofs.is_sized.Goals as goal
-
-pub returns-then-n-ge1 : goal.returns-then-n-ge1
-returns-then-n-ge1 c = rw (le-leb 1 _ c.if-n-ge1.true)
-
-pub returns-else-n-ge1 : goal.returns-else-n-ge1
-returns-else-n-ge1 c = rw (lt-leb 1 _ c.if-n-ge1.false)

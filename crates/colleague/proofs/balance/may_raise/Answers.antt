@@ -1,9 +1,0 @@
--- `colleague::balance::may_raise` meets its contract. Assumes nothing.
-use mathlib.Core.Path.{sym, ◌∙◌}
-use Rattle.colleague.proofs.balance.may_raise.Goals as goal
-
-pub returns-then-is_normal : goal.returns-then-is_normal
-returns-then-is_normal c = rw (sym c.is_normal.ensures ∙ c.if-is_normal.true)
-
-pub returns-else-is_normal : goal.returns-else-is_normal
-returns-else-is_normal c = rw (sym c.is_normal.ensures ∙ c.if-is_normal.false)

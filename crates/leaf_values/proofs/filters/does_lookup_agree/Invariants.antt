@@ -1,6 +1,0 @@
--- `leaf_values::filters::does_lookup_agree` is safe and ends. Assumes nothing.
-use Rattle.std.proofs.Common.{◌-◌, length}
-use Rattle.leaf_values.proofs.filters.does_lookup_agree.Given as goal
-
-abbrev pub decreases-loop-i : goal.decreases-loop-i
-decreases-loop-i l = length l.places - l.i

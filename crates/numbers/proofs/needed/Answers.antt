@@ -1,9 +1,0 @@
--- `numbers::needed` meets its contract. Assumes nothing.
-use mathlib.Core.Path.{sym, ◌∙◌}
-use Rattle.numbers.proofs.needed.Goals as goal
-
-pub returns-then-is_finite : goal.returns-then-is_finite
-returns-then-is_finite c = rw (sym c.is_finite.ensures ∙ c.if-is_finite.true)
-
-pub returns-else-is_finite : goal.returns-else-is_finite
-returns-else-is_finite c = rw (sym c.is_finite.ensures ∙ c.if-is_finite.false)

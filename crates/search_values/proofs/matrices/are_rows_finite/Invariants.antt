@@ -1,6 +1,0 @@
--- `search_values::matrices::are_rows_finite` is safe and ends. Assumes nothing.
-use Rattle.std.proofs.Common.{◌-◌}
-use Rattle.search_values.proofs.matrices.are_rows_finite.Given as goal
-
-abbrev pub decreases-loop-i : goal.decreases-loop-i
-decreases-loop-i l = l.size - l.i
