@@ -12,7 +12,7 @@ use lib.ListN.{length, get_or, set, take, drop, drop_of_length-le, length-append
 use lib.Seq.{drop-cons, take_at, take_all, take-suc-set}
 use borrow.Author.Rules.{rules}
 use Rattle.numbers.specs.declared.Refusal.{Refusal}
-use Rattle.numbers.specs.Outcome.{Outcome, refused, gave, bind, sweep, gather}
+use Rattle.numbers.specs.Outcome.{Outcome, refused, gave, bind, sweep, gather, fill}
 use Rattle.numbers.specs.Refusals.{refusal_number, outcome_of, verdict_of, count_of, few, Filled, Wrote, Answers}
 
 -- ---- a return: what was given so far, and what follows; or the refusal
@@ -166,3 +166,23 @@ module _ {A : Type 0} {g : ℕ → Outcome A} {n i : ℕ} {b : List A} {r : Outc
   pub gather_end : Gathering g n i b r → n ≤ i → gave (take i b) ≡ r
   unfolding gather
   gather_end q h = let k : n - i ≡ 0 = omega arith in rw (k, append-nil) at q.rest
+
+-- ---- a list being filled in place: what is still to come leaves r
+pub record Filling {A : Type 0} (g : ℕ → Outcome A) (n i : ℕ) (w r : List A) : Type 0 where
+  pub rest : fill g (n - i) i w ≡ r
+
+pub fill_start : {A : Type 0} {g : ℕ → Outcome A} {n : ℕ} {w : List A} → Filling g n 0 w (fill g n 0 w)
+fill_start {A} {g} {n} {w} = record { rest = rw sub-zero refl }
+
+module _ {A : Type 0} {g : ℕ → Outcome A} {n i : ℕ} {w r : List A} where
+  pub fill_next : {a : A} → Filling g n i w r → i < n → gave a ≡ g i → Filling g n (i + 1) (set w i a) r
+  unfolding fill
+  fill_next {a} q h e = let k : n - i ≡ suc (n - (i + 1)) = omega arith in record { rest = rw (k, ← e) at q.rest }
+
+  pub fill_stop : {m : ℕ} → Filling g n i w r → i < n → refused m ≡ g i → w ≡ r
+  unfolding fill
+  fill_stop {m} q h e = let k : n - i ≡ suc (n - (i + 1)) = omega arith in rw (k, ← e) at q.rest
+
+  pub fill_end : Filling g n i w r → n ≤ i → w ≡ r
+  unfolding fill
+  fill_end q h = let k : n - i ≡ 0 = omega arith in rw k at q.rest

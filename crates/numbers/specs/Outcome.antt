@@ -1,6 +1,6 @@
 -- What a computation gives: a refusal by its number in document 01, or an answer. In a chain of binds the order of the
 -- work is the order on the page, and the first refusal is the outcome.
-use Rattle.std.specs.Prelude.{ℕ, zero, suc, ◌+◌, Bool, true, false, List, [], ◌∷◌, Float, leb, length}
+use Rattle.std.specs.Prelude.{ℕ, zero, suc, ◌+◌, Bool, true, false, List, [], ◌∷◌, Float, leb, length, set}
 use Rattle.std.specs.Float.Ieee.Scale.{finite}
 use Rattle.numbers.specs.Floats.{all_finite}
 
@@ -35,3 +35,13 @@ sweep f (x ∷ xs) s = bind (f x s) (sweep f xs)
 unfoldable pub gather : {A : Type 0} → (ℕ → Outcome A) → ℕ → ℕ → Outcome (List A)
 gather g zero i = gave []
 gather g (suc n) i = bind (g i) (λ a. bind (gather g n (i + 1)) (λ l. gave (a ∷ l)))
+
+-- what is done with what was given; where it was refused, b
+abbrev pub given_to : {A B : Type 0} → Outcome A → (A → B) → B → B
+given_to (refused n) k b = b
+given_to (gave a) k b = k a
+
+-- a list with what g gives at i, i + 1, .., n times, in those places; from the first refusal on it stays as it was
+unfoldable pub fill : {A : Type 0} → (ℕ → Outcome A) → ℕ → ℕ → List A → List A
+fill g zero i w = w
+fill g (suc n) i w = given_to (g i) (λ a. fill g n (i + 1) (set w i a)) w

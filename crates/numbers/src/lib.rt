@@ -6,7 +6,7 @@ ghost use Rattle.std.specs.Float.Ieee.{of_int};
 ghost use Rattle.std.specs.Float.Ieee.Scale.{finite};
 ghost use Rattle.numbers.specs.Floats.{sign, fault_of, all_finite, magnitude_of, normal, lesser, clamp};
 ghost use Rattle.numbers.specs.Refusals.{refusal_number, outcome_of, verdict_of, Filled, Gives};
-ghost use Rattle.numbers.specs.Outcome.{Outcome, needed_of, needed_list_of, gather};
+ghost use Rattle.numbers.specs.Outcome.{Outcome, needed_of, needed_list_of, gather, fill};
 ghost use Rattle.numbers.specs.Words.{of_word, to_word};
 
 // Why a call is refused: the table of document 01, numbers 1 to 15.
@@ -89,13 +89,15 @@ pub fn needed_list(src: &[f64], out: &mut [f64]) -> Result<(), Refusal>
     Ok(())
 }
 
-// What `at` gives for each place in turn, into a list of as many; the first refusal ends it.
+// What `at` gives for each place in turn, into a list of as many; the first refusal ends it, and leaves the places from there on as
+// they were.
 pub fn fill_with<F: Fn(usize) -> Result<f64, Refusal>>(
     out: &mut [f64],
     at: F,
 ) -> Result<(), Refusal>
     requires { (k : ℕ) → k < length out.old → F.pre at k }
     ensures outcome { (g : ℕ → Outcome Float) → Gives (length out.old) (F.post at) g → verdict_of result out.new ≡ gather g (length out.old) 0 }
+    ensures left { (g : ℕ → Outcome Float) → Gives (length out.old) (F.post at) g → out.new ≡ fill g (length out.old) 0 out.old }
     ensures length { length out.new ≡ length out.old }
 {
     for i in 0..out.len() {
