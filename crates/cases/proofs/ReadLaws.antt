@@ -5,17 +5,18 @@ use lib.Ieee.{Float}
 use lib.ListN.{set}
 use Rattle.text.specs.Words.{next_of}
 use Rattle.text.specs.declared.Word.{Word}
+use Rattle.cases.specs.declared.Span.{Span}
 use Rattle.cases.specs.Cases.{span, number_in, numbers_from, numbers_at, Reading, reading}
 
 -- i of the numbers are read, and those from `from` on give r
-pub record Underway (s : List ℕ) (at count i from : ℕ) (w : List Float) (r : Reading) : Type 0 where
+pub record Underway (s : List ℕ) (at count i from : ℕ) (w : List Float) (r : Reading (Option Span)) : Type 0 where
   pub within : i ≤ count
   pub rest : numbers_from s at count (count - i) i from w ≡ r
 
 pub read_start : {s : List ℕ} {at count : ℕ} {w : List Float} → Underway s at count 0 at w (numbers_at s at count w)
 read_start = record { within = omega arith; rest = rw sub-zero }
 
-module _ {s : List ℕ} {at count i from : ℕ} {w : List Float} {r : Reading} (g : Underway s at count i from w r) where
+module _ {s : List ℕ} {at count i from : ℕ} {w : List Float} {r : Reading (Option Span)} (g : Underway s at count i from w r) where
   pub read_full : i < count → length w ≤ i → reading None w ≡ r
   unfolding numbers_from
   read_full h k = let z : count - i ≡ suc (count - (i + 1)) = omega arith in rw (z, le-ltb i (length w) k) at g.rest

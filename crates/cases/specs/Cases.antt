@@ -1,6 +1,6 @@
 -- Stored cases: words, whole numbers and lists of numbers in a text.
-use Rattle.std.specs.Prelude.{ℕ, zero, suc, ◌+◌, ◌≡◌, Bool, true, false, cond, ◌&&◌, List, [], ◌∷◌, Option, Some, None, eqb, leb, ltb, Float, length, get_or, take, set}
-use Rattle.std.specs.Option.{option_and_then, option_map, option_map_or, unwrap_or}
+use Rattle.std.specs.Prelude.{ℕ, zero, suc, ◌+◌, ◌≡◌, Bool, true, false, cond, ◌&&◌, List, [], ◌∷◌, Option, Some, None, Result, Err, eqb, leb, ltb, Float, length, get_or, take, set}
+use Rattle.std.specs.Option.{ok_or, option_and_then, option_map, option_map_or, unwrap_or}
 use Rattle.std.specs.Float.{nan}
 use Rattle.std.specs.Float.Ieee.Scale.{finite}
 use Rattle.numbers.specs.Floats.{all_finite}
@@ -35,30 +35,34 @@ unfoldable pub number_in : List ℕ → ℕ → ℕ → Float
 number_in s from to = option_map_or (λ w. cond (eqb (to_word (of_word w)) w) (of_word w) nan) (hex_of s from to) nan
 
 -- what was read, and the list after it
-pub record Reading : Type 0 where
-  pub told : Option Span
+pub record Reading (A : Type 0) : Type 0 where
+  pub told : A
   pub list : List Float
 
-abbrev pub reading : Option Span → List Float → Reading
+abbrev pub reading : {A : Type 0} → A → List Float → Reading A
 reading t w = record { told = t; list = w }
 
 -- the last n of `count` numbers, from `from` on, into w at i, i + 1, ..; nothing where a word or room for it is missing, and then
 -- what was written stays
-unfoldable pub numbers_from : List ℕ → ℕ → ℕ → ℕ → ℕ → ℕ → List Float → Reading
+unfoldable pub numbers_from : List ℕ → ℕ → ℕ → ℕ → ℕ → ℕ → List Float → Reading (Option Span)
 numbers_from s at count zero i from w = reading (Some (span count from)) w
 numbers_from s at count (suc n) i from w =
     let rest = option_map_or (λ (a : Word). numbers_from s at count n (i + 1) a.to (set w i (number_in s a.from a.to))) (next_of s from) (reading None w) in
     cond (ltb i (length w)) rest (reading None w)
 
-abbrev pub numbers_at : List ℕ → ℕ → ℕ → List Float → Reading
+abbrev pub numbers_at : List ℕ → ℕ → ℕ → List Float → Reading (Option Span)
 numbers_at s at count w = numbers_from s at count count 0 at w
 
+-- what was read, or else where it was to stand
+abbrev pub standing : ℕ → Reading (Option Span) → Reading (Result Span ℕ)
+standing at x = reading (ok_or x.told at) x.list
+
 -- a keyword, how many, and the numbers
-unfoldable pub list_at : List ℕ → ℕ → List Float → Reading
-list_at s at w = option_map_or (λ n. numbers_at s n.at n.count w) (whole_at s (past_of s at)) (reading None w)
+unfoldable pub list_at : List ℕ → ℕ → List Float → Reading (Result Span ℕ)
+list_at s at w = option_map_or (λ n. standing n.at (numbers_at s n.at n.count w)) (whole_at s (past_of s at)) (reading (Err at) w)
 
 -- The contract of a function that reads into a lent list, w' at exit.
-pub record ReadInto (x : Reading) (r : Option Span) (w' : List Float) : Type 0 where
+pub record ReadInto {A : Type 0} (x : Reading A) (r : A) (w' : List Float) : Type 0 where
   pub is : r ≡ x.told
   pub out : w' ≡ x.list
 

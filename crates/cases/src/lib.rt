@@ -73,13 +73,14 @@ pub fn numbers_into(s: &[u8], at: usize, count: usize, out: &mut [f64]) -> Optio
     Some(Span { count, at: from })
 }
 
-// A keyword, how many, and the numbers.
+// A keyword, how many, and the numbers; or where what is missing stands: `at` for the count, and the place after the count for a
+// number or room for one.
 #[tactic(auto, unfolding(crate::specs::Cases::list_at))]
-pub fn list_into(s: &[u8], at: usize, out: &mut [f64]) -> Option<Span>
+pub fn list_into(s: &[u8], at: usize, out: &mut [f64]) -> Result<Span, usize>
     ensures { ReadInto (list_at s.now at out.old) result out.new }
 {
-    let n = whole_at(s, past(s, at))?;
-    numbers_into(s, n.at, n.count, out)
+    let n = whole_at(s, past(s, at)).ok_or(at)?;
+    numbers_into(s, n.at, n.count, out).ok_or(n.at)
 }
 
 // Finite numbers of the same bits. Nothing is the same as a number that is not finite, which no leaf gives.

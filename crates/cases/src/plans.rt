@@ -1,8 +1,8 @@
 // Numbers as a person or the oracle writes them, bands and plans.
 ghost use Rattle.std.specs.Prelude.{◌≡◌};
-ghost use Rattle.cases.specs.Plans.{plain_in, written_in, written_at, two_past, value_from, band_at, empty_plan, plan_at};
+ghost use Rattle.cases.specs.Plans.{plain_in, written_in, written_at, two_past, value_from, read_in, band_at, empty_plan, plan_at};
 
-use crate::{number_in, past, whole_at};
+use crate::{Span, count_at, number_in, past, whole_at};
 use bands::{Band, Plan, Symmetry, Value};
 use text::Word;
 
@@ -71,20 +71,18 @@ fn value_from(s: &[u8], at: usize, kind: usize) -> Value
     }
 }
 
-// A band's line, its keyword too.
+// A band's line, its keyword too; as far as it could be read where that is no band.
 #[tactic(auto, unfolding(crate::specs::Plans::band_at))]
-pub fn band_at(s: &[u8], at: usize) -> Option<Banded>
+pub fn band_at(s: &[u8], at: usize) -> Result<Banded, Banded>
     ensures { result ≡ band_at s.now at }
 {
-    let d = whole_at(s, past(s, at))?;
-    let w = whole_at(s, d.at)?;
-    if 1 < d.count || 1 < w.count {
-        return None;
-    }
+    let d = count_at(s, past(s, at));
+    let kind = whole_at(s, d.at);
+    let w = kind.unwrap_or(Span { count: 0, at: d.at });
     let edge = past(s, w.at);
     let p = past(s, edge);
     let q = two_past(s, p);
-    Some(Banded {
+    let banded = Banded {
         band: Band {
             begin: written_at(s, w.at),
             end: written_at(s, edge),
@@ -92,7 +90,21 @@ pub fn band_at(s: &[u8], at: usize) -> Option<Banded>
             weight: value_from(s, q, w.count),
         },
         at: two_past(s, q),
-    })
+    };
+    if kind.is_some() && d.count <= 1 && w.count <= 1 {
+        Ok(banded)
+    } else {
+        Err(banded)
+    }
+}
+
+// What was read of a band's line.
+fn read_in(read: Result<Banded, Banded>) -> Banded
+    ensures { result ≡ read_in read }
+{
+    match read {
+        Ok(b) | Err(b) => b,
+    }
 }
 
 fn empty() -> Plan
@@ -110,20 +122,24 @@ fn empty() -> Plan
     }
 }
 
-// Band lines, as many as `count` says; more than a plan can hold are not read.
+// Band lines, as many as `count` says, also after one that is no band; more than a plan can hold are not read.
 #[tactic(auto, unfolding(crate::specs::Plans::plan_at))]
-pub fn plan_at(s: &[u8], at: usize, count: usize) -> Option<Planned>
+pub fn plan_at(s: &[u8], at: usize, count: usize) -> Result<Planned, Planned>
     ensures { result ≡ plan_at s.now at count }
 {
     if Plan::BANDS < count {
-        return None;
+        return Err(Planned { plan: empty(), at });
     }
     let mut plan = Plan { count, ..empty() };
     let mut from = at;
+    let mut good = true;
     for i in 0..count {
-        let b = band_at(s, from)?;
+        let read = band_at(s, from);
+        good &= read.is_ok();
+        let b = read_in(read);
         plan.bands[i] = b.band;
         from = b.at;
     }
-    Some(Planned { plan, at: from })
+    let planned = Planned { plan, at: from };
+    if good { Ok(planned) } else { Err(planned) }
 }

@@ -40,7 +40,7 @@ pub(crate) fn asked_at(s: &[u8], at: usize) -> Option<Asked> {
     let degree = whole_at(s, symmetry.at)?;
     let exchanges = whole_at(s, degree.at)?;
     let bands = whole_at(s, past(s, exchanges.at))?;
-    let planned = plan_at(s, bands.at, bands.count)?;
+    let planned = plan_at(s, bands.at, bands.count).ok()?;
     if 1 < symmetry.count {
         return None;
     }

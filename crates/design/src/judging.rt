@@ -55,8 +55,8 @@ struct Said<'a> {
 fn said_at<'a>(s: &[u8], at: usize, taps: &'a mut [f64], freqs: &'a mut [f64]) -> Option<Said<'a>> {
     let iterations = whole_at(s, at)?;
     let next = past(s, iterations.at);
-    let t = list_into(s, past(s, next), taps)?;
-    let f = list_into(s, t.at, freqs)?;
+    let t = list_into(s, past(s, next), taps).ok()?;
+    let f = list_into(s, t.at, freqs).ok()?;
     Some(Said {
         iterations: iterations.count,
         flatness: written_at(s, iterations.at),

@@ -21,8 +21,16 @@ pub(crate) struct Design<'a> {
     pub(crate) freqs: &'a [f64],
 }
 
-fn opened(request: Request) -> Result<Job, Refusal> {
-    request.bands()?;
+// The job of what was asked for, if that is accepted as a request.
+fn opened(asked: Request) -> Result<Job, Refusal> {
+    let request = Request::new(
+        asked.taps,
+        asked.symmetry,
+        asked.degree,
+        asked.exchanges,
+        asked.threshold,
+        asked.plan,
+    )?;
     Job::open(request)
 }
 

@@ -1,6 +1,7 @@
 // Taps, lookup, response check, edges and adjusted values.
 use crate::judging::{judged_list, judged_one};
 use crate::plans::filter_at;
+use crate::reading::any_into;
 use bands::Symmetry;
 use cases::{count_at, is_same, list_into, numbers_into, past, plan_at};
 use fir_types::{Interval, Target};
@@ -12,8 +13,8 @@ pub(crate) fn taps(s: &[u8], at: usize) -> Option<bool> {
     let mut out = [0.0; 128];
     let t = count_at(s, past(s, at));
     let y = count_at(s, t.at);
-    let p = list_into(s, y.at, &mut a)?;
-    let g = list_into(s, p.at, &mut said)?;
+    let p = list_into(s, y.at, &mut a).ok()?;
+    let g = list_into(s, p.at, &mut said).ok()?;
     let v = fir_types::h_from_ak(
         a.get(..p.count)?,
         t.count,
@@ -27,9 +28,9 @@ pub(crate) fn lookup(s: &[u8], at: usize) -> Option<bool> {
     let mut places = [0.0; 128];
     let mut said = [0.0; 128];
     let n = count_at(s, past(s, at));
-    let p = plan_at(s, n.at, n.count)?;
-    let t = list_into(s, p.at, &mut places)?;
-    list_into(s, t.at, &mut said)?;
+    let p = plan_at(s, n.at, n.count).ok()?;
+    let t = any_into(s, p.at, &mut places);
+    list_into(s, t.at, &mut said).ok()?;
     let plan = p.plan;
     Some(
         places
@@ -109,8 +110,8 @@ pub(crate) fn adjusted<F: Fn(Target, f64) -> Result<f64, Refusal>>(
     let mut places = [0.0; 128];
     let mut said = [0.0; 128];
     let f = filter_at(s, at)?;
-    let t = list_into(s, f.at, &mut places)?;
-    list_into(s, t.at, &mut said)?;
+    let t = any_into(s, f.at, &mut places);
+    list_into(s, t.at, &mut said).ok()?;
     let target = f.target;
     let places = places.get(..t.count)?;
     Some(

@@ -1,6 +1,6 @@
 // Weights, delta, abscissas and responses.
 use crate::judging::{judged_list, judged_one};
-use crate::reading::{one_into, three_into, two_into};
+use crate::reading::{any_into, one_into, three_into, two_into};
 use cases::list_into;
 use numbers::Refusal;
 
@@ -15,8 +15,8 @@ pub(crate) fn of_list<F: Fn(&[f64], &mut [f64]) -> Result<(), Refusal>>(
     let mut x = [0.0; 128];
     let mut said = [0.0; 128];
     let mut out = [0.0; 128];
-    let p = list_into(s, at, &mut x)?;
-    let g = list_into(s, p.at, &mut said)?;
+    let p = list_into(s, at, &mut x).ok()?;
+    let g = list_into(s, p.at, &mut said).ok()?;
     let v = leaf(x.get(..p.count)?, &mut out);
     Some(judged_list(v, &out, &said, g.count))
 }
@@ -26,9 +26,9 @@ pub(crate) fn delta(s: &[u8], at: usize) -> Option<bool> {
     let mut d = [0.0; 128];
     let mut b = [0.0; 128];
     let mut said = [0.0; 1];
-    let p = list_into(s, at, &mut w)?;
-    let q = list_into(s, p.at, &mut d)?;
-    let r = list_into(s, q.at, &mut b)?;
+    let p = any_into(s, at, &mut w);
+    let q = any_into(s, p.at, &mut d);
+    let r = list_into(s, q.at, &mut b).ok()?;
     one_into(s, r.at, &mut said)?;
     let v = barycentric::compute_delta(w.get(..p.count)?, d.get(..q.count)?, b.get(..r.count)?);
     Some(judged_one(v, said[0]))
@@ -42,7 +42,7 @@ pub(crate) fn abscissas(s: &[u8], at: usize) -> Option<bool> {
     let mut out = [0.0; 128];
     let p = one_into(s, at, &mut e)?;
     let q = two_into(s, p.at, &mut d, &mut b)?;
-    list_into(s, q.at, &mut said)?;
+    list_into(s, q.at, &mut said).ok()?;
     let v = barycentric::compute_lagrange_abscisa(
         e[0],
         d.get(..q.count)?,

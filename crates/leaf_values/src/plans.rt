@@ -14,7 +14,7 @@ pub(crate) fn filter_at(s: &[u8], at: usize) -> Option<Filter> {
     let t = count_at(s, past(s, at));
     let y = count_at(s, t.at);
     let n = count_at(s, y.at);
-    let p = plan_at(s, n.at, n.count)?;
+    let p = plan_at(s, n.at, n.count).ok()?;
     Some(Filter {
         target: Target {
             plan: p.plan,

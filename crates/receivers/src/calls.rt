@@ -16,7 +16,7 @@ impl Bench {
         let degree = count_at(s, symmetry.at);
         let exchanges = count_at(s, degree.at);
         let bands = count_at(s, past(s, exchanges.at));
-        let Some(planned) = plan_at(s, bands.at, bands.count) else {
+        let Ok(planned) = plan_at(s, bands.at, bands.count) else {
             return println!(rt; "WRONG: a request that cannot be read");
         };
         let request = Request {

@@ -59,7 +59,7 @@ impl Bench {
             plan_at(s, bands.at, bands.count),
             self.images.get_mut(image.count),
         ) {
-            (Some(planned), Some(image)) if image.bands() == bands.count => {
+            (Ok(planned), Some(image)) if image.bands() == bands.count => {
                 image.put_plan(planned.plan);
                 Ok(())
             }

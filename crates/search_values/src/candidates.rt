@@ -22,7 +22,7 @@ fn kept(s: &[u8], at: usize, places: &[u64]) -> Option<Judged> {
 pub(crate) fn prune(s: &[u8], at: usize) -> Option<Judged> {
     let mut errors = [0.0; 1241];
     let mut places = [0u64; 1241];
-    let p = cases::list_into(s, at, &mut errors)?;
+    let p = cases::list_into(s, at, &mut errors).ok()?;
     let k = cases::whole_at(s, cases::past(s, p.at))?;
     match pruning::prune_extrema_candidates(errors.get(..p.count)?, k.count, &mut places) {
         Ok(()) => kept(s, k.at, places.get(..k.count)?),

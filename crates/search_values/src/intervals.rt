@@ -28,7 +28,7 @@ pub(crate) fn first(s: &[u8], at: usize) -> Option<Judged> {
     let mut out = [0.0; 65];
     let f = count_at(s, past(s, at));
     let b = pairs_into(s, f.at, &mut pairs)?;
-    let g = list_into(s, b.at, &mut said)?;
+    let g = list_into(s, b.at, &mut said).ok()?;
     if 64 < f.count || g.count != f.count + 1 {
         return None;
     }
@@ -42,7 +42,7 @@ pub(crate) fn subdivide(s: &[u8], at: usize) -> Option<Judged> {
     let mut x = [0.0; 65];
     let mut pairs = [[0.0; 2]; 8];
     let mut said = [[0.0; 2]; 73];
-    let p = list_into(s, at, &mut x)?;
+    let p = list_into(s, at, &mut x).ok()?;
     let b = pairs_into(s, p.at, &mut pairs)?;
     let g = pairs_into(s, b.at, &mut said)?;
     let made = subdivision::subdivide(x.get(..p.count)?, edges_of(pairs, b.count)).ok()?;

@@ -15,7 +15,7 @@ fn rows_at(s: &[u8], at: usize, size: usize) -> Option<Rows> {
     let mut rows = [[0.0; 15]; 15];
     let mut from = at;
     for row in rows.get_mut(..size)? {
-        let e = list_into(s, from, row)?;
+        let e = list_into(s, from, row).ok()?;
         if e.count != size {
             return None;
         }
@@ -53,7 +53,7 @@ fn balanced(s: &[u8], at: usize, made: Result<Colleague, Refusal>) -> Option<Jud
 
 pub(crate) fn colleague(s: &[u8], at: usize) -> Option<Judged> {
     let mut ck = [0.0; 16];
-    let p = list_into(s, at, &mut ck)?;
+    let p = list_into(s, at, &mut ck).ok()?;
     let made = colleague::colleague_matrix(ck.get(..p.count)?);
     if is_failure(s, p.at, b"ProxyDerivativeZero") {
         return matches!(made, Err(Refusal::Derivative)).then_some(Judged::Refused);
@@ -77,7 +77,7 @@ pub(crate) fn roots(s: &[u8], at: usize) -> Option<Judged> {
     let mut out = [0.0; 15];
     match roots::find_roots(m, &mut out) {
         Ok(n) => {
-            let g = list_into(s, r.at, &mut said)?;
+            let g = list_into(s, r.at, &mut said).ok()?;
             (n == g.count && are_same(&out, &said, n)).then_some(Judged::Same)
         }
         Err(Refusal::Roots)
