@@ -35,6 +35,10 @@ wrote_told (gave s) ws out out' (Ok n) w =
     record { told = ap tell_bytes (sym (length-take-le n out' w.room) ∙ ap length (gave_same w.is)); slot = refl; taps = refl; freqs = refl; bytes = w.out }
 wrote_told (gave s) ws out out' (Err q) w = absurd (never_given w.is)
 
+-- an answer that is passed on as it was given
+pub wrote_same : (o : Outcome (List ℕ)) (ws out out' : List ℕ) (c c' : Result ℕ Refusal) → Wrote o c out out' → c' ≡ c → Settled (saving ws out o) (told_by tell_bytes c') ws [] [] out'
+wrote_same o ws out out' c c' w e = rw e (wrote_told o ws out out' c w)
+
 -- ---- a job, once it has judged itself
 given_bind : {A B : Type 0} (o : Outcome A) (p : Outcome B) → is_given o ≡ true → bind o (λ _. p) ≡ p
 given_bind (refused n) p e = absurd (true≢false (sym e))

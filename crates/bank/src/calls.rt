@@ -28,9 +28,9 @@ pub(crate) fn step_slot(s: &mut [u64], scratch: &mut [u64]) -> Result<(), Refusa
     requires { (length s.old ≡ 256) × (length scratch.old ≡ 8192) }
     ensures { Settled (on_slot full Call.step s.old) (told_by tell_done result) s.new [] [] [] }
 {
-    let mut job = slot::job_in(s)?;
-    let answer = job.step(scratch);
-    slot::store(s, job);
+    let before = slot::job_in(s)?;
+    let (next, answer) = before.step(scratch);
+    slot::store(s, next);
     answer
 }
 

@@ -64,7 +64,8 @@ fn finished(first: Job, taps: &mut [f64], freqs: &mut [f64]) -> Run {
             break;
         }
         // A failed exchange is told by the job's state.
-        let _ = job.step(&mut scratch);
+        let (next, _) = job.step(&mut scratch);
+        job = next;
     }
     Run {
         made: job.fields.made,

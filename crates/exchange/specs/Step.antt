@@ -1,4 +1,4 @@
--- A step: a job becomes the next job.
+-- A step: a job goes in and comes back as the next job.
 use Rattle.std.specs.Prelude.{Result, ℕ, ◌≡◌, List, leb, length}
 use Rattle.numbers.specs.Outcome.{Outcome, refused, gave, bind, unless}
 use Rattle.numbers.specs.Refusals.{verdict_of}

@@ -97,17 +97,18 @@ impl Job {
         Job::resume(Fields::opening(request))
     }
 
-    // One exchange: the job becomes the next one. The first 2,482 words are worked in, and zero afterwards.
-    pub fn step(&mut self, scratch: &mut [u64]) -> Result<(), Refusal>
-        ensures { Step (held_of self.old) self.new result scratch.old scratch.new }
+    // One exchange: a job goes in and comes back as the next one. The first 2,482 words are worked in, and zero afterwards.
+    pub fn step(self, scratch: &mut [u64]) -> (Job, Result<(), Refusal>)
+        ensures { Step (held_of self) result.0 result.1 scratch.old scratch.new }
     {
         if scratch.len() < extrema::WORDS {
-            return Err(Refusal::Room);
+            return (self, Err(Refusal::Room));
         }
         let words = &mut scratch[..extrema::WORDS];
-        let answer = step::step_in(self, words);
+        let mut job = self;
+        let answer = step::step_in(&mut job, words);
         numbers::wipe(words);
-        answer
+        (job, answer)
     }
 
     // The finished design: taps and frequencies to the front of the outputs, which hold at least 128 and 65.

@@ -1,11 +1,8 @@
 -- A loop that passes bytes up to the first at which a test holds. Assumes nothing.
-use Rattle.std.proofs.Common.{ℕ, ◌+◌, ◌-◌, ◌<◌, ◌≤◌, ◌≡◌, refl, Bool, true, false, cond, List, [], ◌∷◌, Option, Some, None, ltb, ltb-false, not, add-one, arith, rules, length, get_or, take, drop, length-drop}
-use Rattle.std.proofs.lemmas.List.Recursion.{is_position_or_len}
-use Rattle.std.proofs.lemmas.List.Sums.{prefix_len-le-length}
-use Rattle.std.specs.List.{position, position_or_len}
+use Rattle.std.proofs.Common.{ℕ, ◌+◌, ◌<◌, ◌≤◌, ◌≡◌, refl, Bool, true, false, List, add-one, arith, length, get_or, drop}
 use lib.ListN.{drop_of_length-le}
-use lib.Seq.{drop-cons, take_all}
-use Rattle.text.specs.Words.{before, blank, word_length}
+use lib.Seq.{drop-cons}
+use Rattle.text.specs.Words.{before}
 
 -- the place i, and what is left to pass from there, make r
 pub record Passing {S : Type 0} (test : S → ℕ → Bool) (f : S → ℕ → S) (s : List ℕ) (i : ℕ) (m : S) (r : ℕ) : Type 0 where
@@ -28,26 +25,3 @@ module _ {S : Type 0} {test : S → ℕ → Bool} {f : S → ℕ → S} {s : Lis
   pub pass_end : {r : ℕ} → Passing test f s i m r → length s ≤ i → i ≡ r
   unfolding before
   pass_end {r} g h = let z : i + 0 ≡ r = rw (drop_of_length-le s {i = i} h) at g.rest in omega arith
-
--- with no state it is the place of the first such byte, or the length
-pub before-position : (test : ℕ → Bool) (s : List ℕ) → before (λ (u : Unit {0}) b. test b) (λ u b. u) tt s ≡ position_or_len test s
-unfolding before
-before-position test s = is_position_or_len (before (λ (u : Unit {0}) b. test b) (λ u b. u) tt) test refl (λ x xs. search (rules)) s
-
-pub word_to : (s : List ℕ) {n : ℕ} → position blank s ≡ Some n → word_length s ≡ n
-word_to s {n} e = rw (before-position blank s) (go (ltb (position_or_len blank s) (length s)) e)
-  where
-    go : (t : Bool) → cond t (Some (position_or_len blank s)) None ≡ Some n → position_or_len blank s ≡ n
-    go true h = cc
-    go false h = absurd (let z : ⊥ = cc in z)
-
-pub word_to_end : (s : List ℕ) → position blank s ≡ None → word_length s ≡ length s
-word_to_end s e = rw (before-position blank s) (go (ltb (position_or_len blank s) (length s)) refl e)
-  where
-    go : (t : Bool) → ltb (position_or_len blank s) (length s) ≡ t → cond t (Some (position_or_len blank s)) None ≡ None → position_or_len blank s ≡ length s
-    go true p h = absurd (let z : ⊥ = cc in z)
-    go false p h = let q = ltb-false _ _ p in let r = prefix_len-le-length (λ x. not (blank x)) s in omega arith
-
--- the bytes from a place on are all that is left
-pub all_from : (s : List ℕ) (i : ℕ) → take (length s - i) (drop i s) ≡ drop i s
-all_from s i = take_all (length s - i) (drop i s) (let z = length-drop i s in omega (arith, z))

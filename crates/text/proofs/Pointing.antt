@@ -1,5 +1,5 @@
 -- A loop that reads the bytes of a plain decimal. Assumes nothing.
-use Rattle.std.proofs.Common.{ℕ, ◌+◌, ◌<◌, ◌≤◌, ◌≡◌, refl, Bool, false, List, Option, Some, None, add-one, length, get_or, drop}
+use Rattle.std.proofs.Common.{ℕ, ◌+◌, ◌<◌, ◌≤◌, ◌≡◌, Bool, List, Option, Some, None, add-one, length, get_or, drop}
 use lib.ListN.{drop_of_length-le}
 use lib.Seq.{drop-cons}
 use Rattle.text.specs.Fractions.{with_byte, fraction_from}

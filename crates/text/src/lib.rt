@@ -5,7 +5,6 @@ mod fraction;
 mod input;
 
 ghost use Rattle.std.specs.Prelude.{◌≡◌, ◌+◌, ◌≤◌, length, drop};
-ghost use Rattle.std.specs.List.{position};
 ghost use Rattle.text.specs.Parts.{part_of, same};
 ghost use Rattle.text.specs.Words.{blank, begins, remarked, lead, word_length, start_of, next_of};
 ghost use Rattle.text.specs.Numerals.{value_of, Short, numeral, hex_of, decimal_of};
@@ -24,7 +23,7 @@ pub struct Word {
 fn is_blank(b: u8) -> bool
     ensures { result ≡ blank b }
 {
-    matches!(b, b' ' | b'\n' | b'\r' | b'\t')
+    b == b' ' || b == b'\n' || b == b'\r' || b == b'\t'
 }
 
 #[tactic(auto, unfolding(crate::specs::Words::begins))]
@@ -54,20 +53,16 @@ fn word_start(s: &[u8], at: usize) -> Option<usize>
     None
 }
 
-fn first_blank(s: &[u8]) -> Option<usize>
-    ensures { result ≡ position blank s.now }
-{
-    s.iter().position(|&b| is_blank(b))
-}
-
 fn word_end(s: &[u8], from: usize) -> usize
     requires { from ≤ length s.now }
     ensures { result ≡ from + word_length (drop from s.now) }
 {
-    match first_blank(&s[from..]) {
-        Some(n) => from + n,
-        None => s.len(),
+    for i in from..s.len() {
+        if is_blank(s[i]) {
+            return i;
+        }
     }
+    s.len()
 }
 
 // The next word at or after `at`: blanks and remarks before it are passed.

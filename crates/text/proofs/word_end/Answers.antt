@@ -1,16 +1,22 @@
 -- `text::word_end` meets its contract. Assumes nothing.
-use Rattle.std.proofs.Common.{◌≡◌, sym, ◌∙◌, arith, drop, length-drop}
-use Rattle.text.specs.Words.{word_length}
-use Rattle.text.proofs.Passing.{all_from, word_to, word_to_end}
+use Rattle.std.proofs.Common.{◌≡◌, refl, sym, ◌∙◌, arith, length}
+use Rattle.text.proofs.Passing.{pass_start, pass_stop, pass_next, pass_end}
 use Rattle.text.proofs.word_end.Goals as goal
 
-pub returns-in-Some : goal.returns-in-Some
-returns-in-Some c =
-    let e : word_length (drop c.args.from c.args.s.now) ≡ c.in-Some.n = word_to _ (rw all_from at (sym c.first_blank.ensures ∙ c.in-Some.is)) in
-    omega arith
+pub loop-i-init : goal.loop-i-init
+loop-i-init c = (c.requires, pass_start)
 
-pub returns-in-None : goal.returns-in-None
-returns-in-None c =
-    let e = word_to_end (drop c.args.from c.args.s.now) (rw all_from at (sym c.first_blank.ensures ∙ c.in-None.is)) in
-    let k = length-drop c.args.from c.args.s.now in
-    omega arith
+pub returns-then-is_blank : goal.returns-then-is_blank
+returns-then-is_blank c = pass_stop c.loop-i.invariant.1 c.loop-i-test.true (sym c.is_blank.ensures ∙ c.if-is_blank.true)
+
+pub loop-i-preserved : goal.loop-i-preserved
+loop-i-preserved c = (
+  omega (arith, c.loop-i-test.true),
+  pass_next c.loop-i.invariant.1 c.loop-i-test.true (sym c.is_blank.ensures ∙ c.if-is_blank.false) refl,
+)
+
+pub returns : goal.returns
+returns c =
+    let e = pass_end c.loop-i.invariant.1 (omega (arith, c.loop-i-test.false)) in
+    let k : length c.args.s.now ≡ c.loop-i.i = omega (arith, c.loop-i-test.false, c.loop-i.invariant.0) in
+    k ∙ e

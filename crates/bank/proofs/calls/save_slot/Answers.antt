@@ -7,7 +7,8 @@ use Rattle.exchange.specs.declared.job.State.{State}
 use Rattle.exchange.specs.Job.{standing_of}
 use Rattle.bank.specs.Calls.{save_by}
 use Rattle.bank.proofs.CallLaws.{save_refused, asked_holds}
-use Rattle.bank.proofs.SaveLaws.{save_unfit, save_given, save_holds, saved_fits, image_by, wrote_told}
+use Rattle.bank.proofs.SaveLaws.{save_unfit, save_given, save_holds, saved_fits, image_by, wrote_same}
+use borrow.Author.Rules.{rules}
 use Rattle.bank.proofs.calls.save_slot.Goals as goal
 
 pub returns-in_err-job : goal.returns-in_err-job
@@ -27,4 +28,4 @@ pub returns-in_default : goal.returns-in_default
 returns-in_default c =
     let j = c.in_ok-job.job in
     save_holds _ _ _ _ _ (asked_holds _ _ c.in_ok-job.ensures)
-    (save_given _ _ _ _ _ _ c.in_ok-check.ensures (saved_fits j.fields _ c.requires.1 ∙ image_by j.state j.fields c.in_default.not-Failed) (wrote_told _ _ _ _ _ c.encode.ensures))
+    (save_given _ _ _ _ _ _ c.in_ok-check.ensures (saved_fits j.fields _ c.requires.1 ∙ image_by j.state j.fields c.in_default.not-Failed) (wrote_same _ _ _ _ _ _ c.encode.ensures (search rules)))
