@@ -6,6 +6,7 @@ use Rattle.std.proofs.lemmas.List.Sums.{prefix_len-le-length, sum_by-cons}
 use native.Mathlib.Decide.{dec_lt}
 use lib.ListN.{drop_of_length-le}
 use lib.Seq.{drop-cons, take_all}
+use mir.Val.{bool_byte}
 use Rattle.text.proofs.Passing.{before-position}
 use Rattle.text.specs.Words.{before}
 use Rattle.numbers.specs.Loops.{run}
@@ -67,3 +68,23 @@ line_number-count s at = pick (dec_lt at (length s))
         let l : length s ≤ at = omega arith in
         let e : length s ≤ length s = omega arith in
         rw (m, le-ltb at (length s) l, newlines-count s (length s) e)
+
+-- ---- a loop that counts newlines: n among the first i, and those to come, are r
+pub count_few : (n i : ℕ) (t : Bool) → n ≤ i → n + bool_byte t ≤ i + 1
+count_few n i true h = omega arith
+count_few n i false h = omega arith
+
+pub count_next : (s : List ℕ) (n i r : ℕ) → n + count_by is_newline (drop i s) ≡ r → i < length s →
+    n + bool_byte (eqb (get_or s i 0) 10) + count_by is_newline (drop (i + 1) s) ≡ r
+count_next s n i r e h =
+    let d : drop i s ≡ get_or s i 0 ∷ drop (i + 1) s = rw (drop-cons s i 0 h, add-one) in
+    let m : count_by is_newline (get_or s i 0 ∷ drop (i + 1) s) ≡ cond (eqb (get_or s i 0) 10) 1 0 + count_by is_newline (drop (i + 1) s) =
+    sum_by-cons (λ b. cond (is_newline b) 1 0) (get_or s i 0) (drop (i + 1) s) in
+    go (eqb (get_or s i 0) 10) (count_by is_newline (drop (i + 1) s)) (rw (d, m) at e)
+  where
+    go : (t : Bool) (k : ℕ) → n + (cond t 1 0 + k) ≡ r → n + bool_byte t + k ≡ r
+    go true k q = omega arith
+    go false k q = omega arith
+
+pub count_end : (s : List ℕ) (n i r : ℕ) → n + count_by is_newline (drop i s) ≡ r → length s ≤ i → n ≡ r
+count_end s n i r e h = let z = rw (drop_of_length-le s {i = i} h) at e in omega arith

@@ -108,7 +108,11 @@ pub fn line_end(s: &[u8], at: usize) -> usize
 fn newlines(s: &[u8]) -> usize
     ensures { result ≡ count_by (λ b. b == 10) s.now }
 {
-    s.iter().filter(|b| **b == b'\n').count()
+    let mut n: usize = 0;
+    for &b in s {
+        n += (b == b'\n') as usize;
+    }
+    n
 }
 
 // The number of a place's line, from 1.
