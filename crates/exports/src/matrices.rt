@@ -43,12 +43,10 @@ fn matrix_of(entries: &[f64]) -> Colleague
     ensures { result ≡ matrix_of entries.now }
 {
     let size = side_of(entries.len());
-    let rows = array::from_fn(
-        |i|
-            requires { (size ≤ 16) × (i < 15) }
-            ensures { result ≡ row_from entries.entry.now size i }
-        { row_from(entries, size, i) },
-    );
+    let mut rows = [[0.0; 15]; 15];
+    for i in 0..15 {
+        rows[i] = row_from(entries, size, i);
+    }
     Colleague {
         rows,
         size,
